@@ -1,0 +1,4 @@
+pub mod Bits
+pub mod Cells
+pub mod Masks
+pub mod Shared
