@@ -1,0 +1,3 @@
+pub mod Cdbs
+pub mod Faults
+pub mod Reading

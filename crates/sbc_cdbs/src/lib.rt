@@ -1,0 +1,17 @@
+//! The command descriptor blocks of an XOR disk array: ten commands of SBC and SPC, as values and as
+//! bytes.
+#![tactic(auto)]
+
+mod commands;
+mod decoding;
+mod descriptor;
+mod encoding;
+mod tables;
+
+pub use commands::Command;
+pub use decoding::{CdbFault, decode};
+pub use descriptor::Cdb;
+pub use encoding::{encode, spelling_law};
+
+#[cfg(test)]
+mod tests;
