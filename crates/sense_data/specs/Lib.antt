@@ -1,0 +1,3 @@
+pub mod Senses
+pub mod Faults
+pub mod Reading
