@@ -1,0 +1,2 @@
+pub mod ParameterLists
+pub mod Tables
