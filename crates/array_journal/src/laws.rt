@@ -1,0 +1,58 @@
+//! Laws of every run of the array, in every setting: of losses, resets, dropped requests, replacements
+//! and rebuilds in any order. Each is the contract of a function that does nothing.
+
+ghost use Rattle.array_journal.specs.Laws.{LivesLaw, FreshLaw, MendedLaw, UnfittedLaw, AloneLaw, UndisturbedLaw, NoActAfterEndLaw, OneEndLaw, AbsentLaw, PresentLaw, OwnersLaw, HeldApartLaw, DeltaHeldLaw, BeginningsLaw, ByNamesLaw, TargetLaneLaw, BookLaneLaw, NamedLaneLaw};
+
+/// The disks of a slot come one after the other: a loss is noted, the slot is swapped, a fresh disk
+/// comes for the swap, and until then the target is gone, holds nothing and is acted on by no command.
+pub fn lives_come_in_order()
+    ensures counted { LivesLaw }
+    ensures replaced { FreshLaw }
+    ensures mended { MendedLaw }
+    ensures unfitted { UnfittedLaw }
+{}
+
+/// While a command of a kind that runs alone is open, no other command is open on its stripe, and no
+/// act of another command is made there.
+pub fn exclusive_commands_are_alone()
+    ensures alone { AloneLaw }
+    ensures undisturbed { UndisturbedLaw }
+{}
+
+/// After the entry that ends a command no act of it follows, at any lock and with any stamp, and
+/// no second end.
+pub fn nothing_follows_an_end()
+    ensures acts { NoActAfterEndLaw }
+    ensures ends { OneEndLaw }
+{}
+
+/// A unit is absent exactly where the book has it as missing or its target has no disk that works. So
+/// a unit that wasn't missing when a command was opened is there at each of its acts.
+pub fn absent_units_are_missing_or_gone()
+    ensures exactly { AbsentLaw }
+    ensures present { PresentLaw }
+{}
+
+/// The blocks that targets hold are of open commands, and no two of them at a target share a row. Where
+/// the controller moves deltas, one is held from its diff until its command takes it or is shut there,
+/// or an entry that names the command discards it, and no longer.
+pub fn held_blocks_are_of_open_commands()
+    ensures owners { OwnersLaw }
+    ensures apart { HeldApartLaw }
+    ensures deltas { DeltaHeldLaw }
+{}
+
+/// Each beginning of a run is a run. And a run is told by its names: they rise, and each entry may
+/// follow those with a smaller name.
+pub fn runs_are_told_by_names()
+    ensures beginnings { BeginningsLaw }
+    ensures by_names { ByNamesLaw }
+{}
+
+/// What a target holds is read from the entries of its own lock alone, what the book holds from
+/// those of lock 0, and an entry that is named from those of its name's lock.
+pub fn locks_are_read_apart()
+    ensures target { TargetLaneLaw }
+    ensures book { BookLaneLaw }
+    ensures named { NamedLaneLaw }
+{}
