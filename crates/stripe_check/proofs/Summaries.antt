@@ -1,0 +1,155 @@
+-- What was kept while a journal was read gives its report.
+use Rattle.std.proofs.Common.{◌≡◌, ℕ, suc, ◌+◌, ◌*◌, ◌<◌, ◌≤◌, ◌&&◌, not, List, [], ◌∷◌, ◌++◌, length, map, get_or, reverse, Option, Some, None, refl, ap, sym, ◌∙◌, arith}
+use Rattle.std.specs.List.{flat_map, filter_map}
+use Rattle.std.specs.Option.{option_map}
+use Rattle.blocks_core.specs.Xor.{xor_all}
+use Rattle.stripe_layout.specs.declared.geometry.Geometry.{Geometry}
+use Rattle.array_journal.specs.declared.entry.Entry.{Entry}
+use Rattle.array_journal.specs.declared.setting.Setting.{Setting}
+use Rattle.array_journal.specs.declared.task.Task.{Task}
+use Rattle.array_journal.specs.Commands.{task_of}
+use Rattle.array_journal.specs.Listed.{dirty_stripe, listed_for}
+use Rattle.array_journal.specs.Lists.{numbers, slice}
+use Rattle.array_journal.specs.Media.{media}
+use Rattle.host_scripts.specs.declared.script.Call.{Call}
+use Rattle.host_scripts.specs.declared.script.Script.{Script}
+use Rattle.std.proofs.lemmas.List.{length-reverse}
+use Rattle.stripe_check.specs.declared.brief.Command.{Command}
+use Rattle.stripe_check.specs.declared.check.Failure.{Failure}
+use Rattle.stripe_check.specs.declared.losses.Losses.{Losses}
+use Rattle.stripe_check.specs.declared.story.Story.{Story}
+use Rattle.stripe_check.specs.Findings.{IsFound}
+use Rattle.stripe_check.specs.Folds.{AreMedia, AreCommands, AreListed, AreReads, AreFailures, brief_of, unknown}
+use Rattle.stripe_check.specs.Found.{any_lost, sums_to_zero, is_whole, listed_count, dirty_briefly, listed_lines, counts_line, entries_text, summary_found, replies_found}
+use Rattle.stripe_check.specs.Losing.{AreLosses}
+use Rattle.stripe_check.specs.Replies.{reply_lines, answer_line, bytes_read, failure_of}
+use Rattle.stripe_check.specs.Reports.{setting_of, dirty_line, dirty_text, absent_text, summary_in, summary_of, report_of}
+use Rattle.stripe_check.specs.Sums.{unit_bytes, unit_on, sum_of, has_absent, is_zero, is_balanced, parts_on}
+use Rattle.stripe_check.proofs.Counting.{same-filter, same-any, same-flat_map}
+
+-- ---- units
+
+any-is : (s : Setting) (past : List Entry) (lost : List ℕ) (made : List (List ℕ)) → AreLosses s past past lost made → (k : ℕ) → k < s.geometry.stripes →
+    any_lost lost made s.geometry.targets k ≡ has_absent s past k
+any-is s past lost made losses k lt = same-any _ _ 0 s.geometry.targets (λ i h. losses.absent i k (omega arith) lt)
+
+parts-from : (kept : List (List ℕ)) (h : ℕ → List ℕ) (a at len : ℕ) → ((i : ℕ) → i < length kept → get_or kept i [] ≡ h (a + i)) →
+    parts_on at len kept ≡ map (λ i. slice (h i) at len) (numbers a (length kept))
+parts-from [] h a at len each = refl
+parts-from (m ∷ kept) h a at len each =
+    let first : m ≡ h a = each 0 (omega arith) ∙ ap h (omega arith) in
+    let rest = parts-from kept h (suc a) at len (λ i lt. each (suc i) (omega arith) ∙ ap h (omega arith)) in
+    rw (first, rest) refl
+
+pub sum-is : (s : Setting) (past : List Entry) (kept : List (List ℕ)) → AreMedia s past kept → (k : ℕ) →
+    xor_all (unit_bytes s.geometry) (parts_on (k * s.geometry.unit * s.geometry.block) (unit_bytes s.geometry) kept) ≡ sum_of s past k
+sum-is s past kept are k =
+    let count = are.count in
+    let parts = parts-from kept (λ i. media s i past) 0 (k * s.geometry.unit * s.geometry.block) (unit_bytes s.geometry)
+    (λ i lt. are.each i (omega arith) ∙ ap (λ n. media s n past) (omega arith)) in
+    ap (λ ms. xor_all (unit_bytes s.geometry) ms) (parts ∙ ap (λ n. map (unit_on s past k) (numbers 0 n)) count)
+
+whole-is : (s : Setting) (past : List Entry) (kept : List (List ℕ)) (lost : List ℕ) (made : List (List ℕ)) → AreMedia s past kept → AreLosses s past past lost made →
+    (k : ℕ) → k < s.geometry.stripes → is_whole s.geometry kept lost made k ≡ is_balanced s past k
+whole-is s past kept lost made are losses k lt =
+    ap (λ b. not b && sums_to_zero s.geometry kept k) (any-is s past lost made losses k lt)
+    ∙ ap (λ bytes. not (has_absent s past k) && is_zero bytes) (sum-is s past kept are k)
+
+-- ---- listed stripes
+
+dirty-is : (stripe : ℕ) (o : Option Task) → dirty_briefly stripe (option_map brief_of o) ≡ dirty_text stripe o
+dirty-is stripe None = refl
+dirty-is stripe (Some task) = refl
+
+count-from : (past : List Entry) (a : ℕ) (listed : List (Option ℕ)) → ((k : ℕ) → k < length listed → get_or listed k None ≡ listed_for (a + k) past) →
+    listed_count listed ≡ length (filter_map (λ stripe. dirty_stripe stripe (listed_for stripe past)) (numbers a (length listed)))
+count-from past a [] each = refl
+count-from past a (None ∷ listed) each =
+    let here : listed_for a past ≡ None = sym (each 0 (omega arith) ∙ ap (λ n. listed_for n past) (omega arith)) in
+    rw here (count-from past (suc a) listed (λ k lt. each (suc k) (omega arith) ∙ ap (λ n. listed_for n past) (omega arith)))
+count-from past a (Some c ∷ listed) each =
+    let here : listed_for a past ≡ Some c = sym (each 0 (omega arith) ∙ ap (λ n. listed_for n past) (omega arith)) in
+    rw here (ap suc (count-from past (suc a) listed (λ k lt. each (suc k) (omega arith) ∙ ap (λ n. listed_for n past) (omega arith))))
+
+lines-from : (past : List Entry) (kept : List Command) → AreCommands past kept → (a : ℕ) (listed : List (Option ℕ)) → ((k : ℕ) → k < length listed → get_or listed k None ≡ listed_for (a + k) past) →
+    listed_lines kept a listed ≡ flat_map (dirty_line past) (filter_map (λ stripe. dirty_stripe stripe (listed_for stripe past)) (numbers a (length listed)))
+lines-from past kept are a [] each = refl
+lines-from past kept are a (None ∷ listed) each =
+    let here : listed_for a past ≡ None = sym (each 0 (omega arith) ∙ ap (λ n. listed_for n past) (omega arith)) in
+    rw here (ap (λ n. listed_lines kept n listed) (omega arith)
+    ∙ lines-from past kept are (suc a) listed (λ k lt. each (suc k) (omega arith) ∙ ap (λ n. listed_for n past) (omega arith)))
+lines-from past kept are a (Some c ∷ listed) each =
+    let here : listed_for a past ≡ Some c = sym (each 0 (omega arith) ∙ ap (λ n. listed_for n past) (omega arith)) in
+    let line : dirty_briefly a (get_or kept c unknown).brief ≡ dirty_text a (task_of c past) = ap (λ (k : Command). dirty_briefly a k.brief) (are.each c) ∙ dirty-is a (task_of c past) in
+    let rest = ap (λ n. listed_lines kept n listed) (omega arith)
+    ∙ lines-from past kept are (suc a) listed (λ k lt. each (suc k) (omega arith) ∙ ap (λ n. listed_for n past) (omega arith)) in
+    rw here (ap (λ xs. xs ++ listed_lines kept (a + 1) listed) line ∙ ap (λ xs. dirty_text a (task_of c past) ++ xs) rest)
+
+-- ---- all of it
+
+assembled : (count stripes z z' l l' a a' : ℕ) (d d' u u' : List ℕ) → z ≡ z' → l ≡ l' → a ≡ a' → d ≡ d' → u ≡ u' →
+    entries_text count ++ (counts_line stripes z l a ++ (d ++ u)) ≡ entries_text count ++ (counts_line stripes z' l' a' ++ (d' ++ u'))
+assembled count stripes z z' l l' a a' d d' u u' p q r t v =
+    ap (λ n. entries_text count ++ (counts_line stripes n l a ++ (d ++ u))) p
+    ∙ ap (λ n. entries_text count ++ (counts_line stripes z' n a ++ (d ++ u))) q
+    ∙ ap (λ n. entries_text count ++ (counts_line stripes z' l' n ++ (d ++ u))) r
+    ∙ ap (λ xs. entries_text count ++ (counts_line stripes z' l' a' ++ (xs ++ u))) t
+    ∙ ap (λ xs. entries_text count ++ (counts_line stripes z' l' a' ++ (d' ++ xs))) v
+
+pub summary-is : (s : Setting) (past : List Entry) (kept : List (List ℕ)) (commands : List Command) (listed : List (Option ℕ)) (lost : List ℕ) (made : List (List ℕ)) →
+    AreMedia s past kept → AreCommands past commands → AreListed past listed → length listed ≡ s.geometry.stripes → AreLosses s past past lost made →
+    summary_found s.geometry (length past) kept commands listed lost made ≡ summary_in s past
+summary-is s past kept commands listed lost made are known dirt count losses =
+    let each : (k : ℕ) → k < length listed → get_or listed k None ≡ listed_for (0 + k) past = λ k lt. dirt.each k lt ∙ ap (λ n. listed_for n past) (omega arith) in
+    assembled (length past) s.geometry.stripes _ _ _ _ _ _ _ _ _ _
+    (ap length (same-filter _ _ 0 s.geometry.stripes (λ k lt. whole-is s past kept lost made are losses k (omega arith))))
+    (count-from past 0 listed each ∙ ap (λ n. length (filter_map (λ stripe. dirty_stripe stripe (listed_for stripe past)) (numbers 0 n))) count)
+    (ap length (same-filter _ _ 0 s.geometry.stripes (λ k lt. any-is s past lost made losses k (omega arith))))
+    (lines-from past commands known 0 listed each
+    ∙ ap (λ n. flat_map (dirty_line past) (filter_map (λ stripe. dirty_stripe stripe (listed_for stripe past)) (numbers 0 n))) count)
+    (same-flat_map _ _ 0 s.geometry.targets (λ i lt. ap (λ n. absent_text i n)
+    (ap length (same-filter _ _ 0 s.geometry.stripes (λ k lt2. losses.absent i k (omega arith) (omega arith))))))
+
+-- ---- answers
+
+pub replies-are : (g : Geometry) (past : List Entry) (reads : List (List ℕ)) (failures : List (Option Failure)) → AreReads g past reads → AreFailures past failures →
+    (n : ℕ) (calls : List Call) → n + length calls ≤ length reads → n + length calls ≤ length failures →
+    replies_found reads failures n calls ≡ reply_lines g past (n + 1) calls
+replies-are g past reads failures read failed n [] le le2 = refl
+replies-are g past reads failures read failed n (call ∷ calls) le le2 =
+    let told : get_or reads n [] ≡ bytes_read g (n + 1) past = read.each n (omega arith) in
+    let why : get_or failures n None ≡ failure_of (n + 1) past = failed.each n (omega arith) in
+    rw (told, why) (ap (λ xs. answer_line (n + 1) call (bytes_read g (n + 1) past) (failure_of (n + 1) past) ++ xs)
+    (replies-are g past reads failures read failed (n + 1) calls (omega arith) (omega arith)))
+
+-- ---- texts
+
+pub summary-text : (script : Script) (journal : List Entry) (s : Setting) (calls entries : ℕ) (kept : List (List ℕ)) (story : Story) (losses : Losses) (start text : List ℕ) →
+    s ≡ setting_of script → IsFound s calls (reverse journal) kept story losses → entries ≡ length journal → start ≡ [] →
+    text ≡ start ++ summary_found s.geometry entries kept story.commands.items story.listed.items losses.lost.items losses.made.items →
+    text ≡ summary_of script journal
+unfolding summary_of
+summary-text script journal s calls entries kept story losses start text set found count nothing said =
+    let here : entries ≡ length (reverse journal) = count ∙ sym (length-reverse journal) in
+    said
+    ∙ ap (λ xs. xs ++ summary_found s.geometry entries kept story.commands.items story.listed.items losses.lost.items losses.made.items) nothing
+    ∙ ap (λ n. summary_found s.geometry n kept story.commands.items story.listed.items losses.lost.items losses.made.items) here
+    ∙ summary-is s (reverse journal) kept story.commands.items story.listed.items losses.lost.items losses.made.items
+    found.stands found.told.commands found.told.dirty found.told.listed_count found.lost
+    ∙ ap (λ (t : Setting). summary_in t (reverse journal)) set
+
+pub report-text : (script : Script) (journal : List Entry) (s : Setting) (calls entries : ℕ) (kept : List (List ℕ)) (story : Story) (losses : Losses) (start first text : List ℕ) →
+    s ≡ setting_of script → IsFound s calls (reverse journal) kept story losses → calls ≡ length script.calls → entries ≡ length journal → start ≡ [] →
+    first ≡ start ++ replies_found story.reads.items story.failures.items 0 script.calls →
+    text ≡ first ++ summary_found s.geometry entries kept story.commands.items story.listed.items losses.lost.items losses.made.items →
+    text ≡ report_of script journal
+unfolding report_of summary_of
+report-text script journal s calls entries kept story losses start first text set found number count nothing answered said =
+    let replies = replies-are script.geometry (reverse journal) story.reads.items story.failures.items (found.told.read script.geometry) found.told.failed 0 script.calls
+    (omega (arith, found.told.read_count)) (omega (arith, found.told.failed_count)) in
+    let lines = answered ∙ ap (λ xs. xs ++ replies_found story.reads.items story.failures.items 0 script.calls) nothing ∙ replies in
+    let rest = summary-text script journal s calls entries kept story losses []
+    (summary_found s.geometry entries kept story.commands.items story.listed.items losses.lost.items losses.made.items) set found count refl refl in
+    said
+    ∙ ap (λ xs. xs ++ summary_found s.geometry entries kept story.commands.items story.listed.items losses.lost.items losses.made.items) lines
+    ∙ ap (λ xs. reply_lines script.geometry (reverse journal) 1 script.calls ++ xs) rest

@@ -1,0 +1,77 @@
+-- What is kept while a journal is read, over the entries read so far, the newest first.
+use Rattle.std.specs.Prelude.{◌≡◌, ◌==◌, ◌&&◌, ◌+◌, ℕ, ◌<◌, Bool, true, false, if◌then◌else◌, List, [], length, get_or, Option, Some, None}
+use Rattle.std.specs.Option.{option_map}
+use Rattle.array_journal.specs.declared.entry.Entry.{Entry}
+use Rattle.array_journal.specs.declared.setting.Setting.{Setting}
+use Rattle.stripe_layout.specs.declared.geometry.Geometry.{Geometry}
+use Rattle.array_journal.specs.declared.task.Kind.{Kind}
+use Rattle.array_journal.specs.declared.task.Kind.TheVariants.{Rebuild, Resync}
+use Rattle.array_journal.specs.declared.task.Task.{Task}
+use Rattle.array_journal.specs.Commands.{task_of}
+use Rattle.array_journal.specs.Entries.{some_at}
+use Rattle.array_journal.specs.Listed.{listed_for}
+use Rattle.array_journal.specs.Lives.{closes_done, is_rebuild}
+use Rattle.array_journal.specs.Media.{media}
+use Rattle.stripe_check.specs.declared.brief.Brief.{Brief}
+use Rattle.stripe_check.specs.declared.brief.Command.{Command}
+use Rattle.stripe_check.specs.declared.check.Failure.{Failure}
+use Rattle.stripe_check.specs.Replies.{bytes_read, failure_of}
+
+-- the media of all targets, in their order
+pub record AreMedia (s : Setting) (past : List Entry) (kept : List (List ℕ)) : Type 0 where
+  pub count : length kept ≡ s.geometry.targets
+  pub each : (i : ℕ) → i < s.geometry.targets → get_or kept i [] ≡ media s i past
+
+-- what a report needs of a task
+abbrev pub brief_of : Task → Brief
+brief_of t = record { call = t.call; piece = t.piece; kind = t.kind; stripe = t.stripe; target = t.target; parity = t.parity }
+
+-- a command that wasn't opened
+abbrev pub unknown : Command
+unknown = record { brief = None; done = false }
+
+-- what entries tell of a command
+abbrev pub known_of : ℕ → List Entry → Command
+known_of c past = record { brief = option_map brief_of (task_of c past); done = some_at 0 (closes_done c) past }
+
+-- the commands by their numbers
+pub record AreCommands (past : List Entry) (kept : List Command) : Type 0 where
+  pub each : (c : ℕ) → get_or kept c unknown ≡ known_of c past
+
+-- one command of a number is opened, or is closed as done
+abbrev pub opened_at : ℕ → Brief → ℕ → Command → Command
+opened_at number brief c old = if number == c then record old { brief = Some brief } else old
+
+abbrev pub closed_at : ℕ → ℕ → Command → Command
+closed_at number c old = if number == c then record old { done = true } else old
+
+-- the bytes that a command tells a call, if its kind passes
+abbrev pub told_if : (Kind → Bool) → ℕ → Option Brief → List ℕ → List ℕ
+told_if test n None bytes = []
+told_if test n (Some b) bytes = if test b.kind && (b.call == n) then bytes else []
+
+-- the bytes that each call was told
+pub record AreReads (g : Geometry) (past : List Entry) (kept : List (List ℕ)) : Type 0 where
+  pub each : (n : ℕ) → n < length kept → get_or kept n [] ≡ bytes_read g (n + 1) past
+
+-- why each call failed
+pub record AreFailures (past : List Entry) (kept : List (Option Failure)) : Type 0 where
+  pub each : (n : ℕ) → n < length kept → get_or kept n None ≡ failure_of (n + 1) past
+
+-- a command makes the parity of its stripe anew
+abbrev pub briefly_renews : Kind → Brief → Bool
+briefly_renews Resync b = true
+briefly_renews Rebuild b = b.target == b.parity
+briefly_renews _ b = false
+
+-- the command that each stripe is listed for
+pub record AreListed (past : List Entry) (kept : List (Option ℕ)) : Type 0 where
+  pub each : (stripe : ℕ) → stripe < length kept → get_or kept stripe None ≡ listed_for stripe past
+
+-- the stripe whose unit of target i a command rebuilt
+abbrev pub briefly_rebuilt_by : Option Brief → Bool → ℕ → Option ℕ
+briefly_rebuilt_by None done i = None
+briefly_rebuilt_by (Some b) done i = if done && is_rebuild b.kind && (b.target == i) then Some b.stripe else None
+
+abbrev pub briefly_rebuilt : Command → ℕ → Option ℕ
+briefly_rebuilt c i = briefly_rebuilt_by c.brief c.done i

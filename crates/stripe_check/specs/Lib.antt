@@ -1,0 +1,10 @@
+pub mod Texts
+pub mod Replies
+pub mod Sums
+pub mod Reports
+pub mod Folds
+pub mod Losing
+pub mod Stories
+pub mod Found
+pub mod Findings
+pub mod Traces

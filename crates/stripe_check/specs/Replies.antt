@@ -1,0 +1,128 @@
+-- What each call of a script is answered, as a journal tells it. A list called past has the newest entry first.
+use Rattle.std.specs.Prelude.{ℕ, ◌+◌, ◌==◌, if◌then◌else◌, Bool, false, List, [], ◌∷◌, ◌++◌, Option, Some, None, codes}
+use Rattle.std.specs.Option.{option_map}
+use Rattle.std.specs.Fmt.{decimal}
+use Rattle.sense_data.specs.declared.senses.Pointer.{Pointer}
+use Rattle.sense_data.specs.declared.senses.Sense.{Sense}
+use Rattle.stripe_layout.specs.declared.geometry.Geometry.{Geometry}
+use Rattle.array_journal.specs.declared.entry.Entry.{Entry}
+use Rattle.array_journal.specs.declared.event.Event.{Event}
+use Rattle.array_journal.specs.declared.event.Event.TheVariants.{Spoil, Refuse}
+use Rattle.array_journal.specs.declared.event.Why.{Why}
+use Rattle.array_journal.specs.declared.event.Why.TheVariants.{Illegal, Medium, NotReady, Unfitted, Present, Listed, Second, Clean, Absent, NotLost}
+use Rattle.array_journal.specs.declared.task.Task.{Task}
+use Rattle.array_journal.specs.Commands.{task_of}
+use Rattle.array_journal.specs.Host.{HostItem, ReadItem, WroteItem, RefusedItem, host}
+use Rattle.host_scripts.specs.declared.script.Action.{Action}
+use Rattle.host_scripts.specs.declared.script.Action.TheVariants.{Read, Write}
+use Rattle.host_scripts.specs.declared.script.Call.{Call}
+use Rattle.host_scripts.specs.Scripts.{line, hex, letter}
+use Rattle.stripe_check.specs.declared.check.Check.{Check}
+use Rattle.stripe_check.specs.declared.check.Failure.{Failure}
+use Rattle.stripe_check.specs.declared.check.Failure.TheVariants.{Refused, Spoilt}
+use Rattle.stripe_check.specs.Texts.{upper_nibble, upper_byte}
+
+-- the bytes that an item tells a call
+abbrev pub told_bytes : ℕ → HostItem → List ℕ
+told_bytes n (ReadItem call piece lba bytes) = if call == n then bytes else []
+told_bytes n (WroteItem call piece lba bytes) = []
+told_bytes n (RefusedItem call piece why) = []
+
+-- all the bytes that a call was told, in the order of the journal
+abbrev pub bytes_told : ℕ → List HostItem → List ℕ
+bytes_told n [] = []
+bytes_told n (item ∷ past) = bytes_told n past ++ told_bytes n item
+
+abbrev pub bytes_read : Geometry → ℕ → List Entry → List ℕ
+bytes_read g n past = bytes_told n (host g past)
+
+abbrev pub is_of_call : ℕ → Option Task → Bool
+is_of_call n None = false
+is_of_call n (Some task) = task.call == n
+
+-- why an event makes a call fail: it refuses a piece of it, or ends a command of it with the delta lost
+abbrev pub failure_by : ℕ → Event → Option Task → Option Failure
+failure_by n (Refuse call piece why) task = if call == n then Some (Refused why) else None
+failure_by n (Spoil command diff loss shut) task = if is_of_call n task then Some Spoilt else None
+failure_by n _ task = None
+
+-- the command that an event ends with its delta lost
+abbrev pub spoilt_command : Event → Option ℕ
+spoilt_command (Spoil command diff loss shut) = Some command
+spoilt_command _ = None
+
+abbrev pub spoilt_task : Option ℕ → List Entry → Option Task
+spoilt_task None past = None
+spoilt_task (Some c) past = task_of c past
+
+abbrev pub first_failure : Option Failure → Option Failure → Option Failure
+first_failure (Some failure) older = Some failure
+first_failure None older = older
+
+-- why a call failed, by its newest such event
+abbrev pub failure_of : ℕ → List Entry → Option Failure
+failure_of n [] = None
+failure_of n (e ∷ past) = first_failure (failure_by n e.event (spoilt_task (spoilt_command e.event) past)) (failure_of n past)
+
+-- sense key, additional sense code and qualifier, without a pointer
+abbrev pub plain_check : ℕ → ℕ → ℕ → Check
+plain_check key asc ascq = record { key = key; asc = asc; ascq = ascq; byte = None }
+
+abbrev pub sense_check : Sense → Check
+sense_check sense = record { key = sense.key; asc = sense.asc; ascq = sense.ascq; byte = option_map (λ (p : Pointer). p.byte) sense.pointer }
+
+-- The check for a refusal, where a missing unit of a listed stripe has its own. NOT READY comes for two missing
+-- units; the reasons below it refuse nothing that reads or writes.
+abbrev pub refusal_check : Check → Why → Check
+refusal_check medium (Illegal sense) = sense_check sense
+refusal_check medium Medium = medium
+refusal_check medium NotReady = plain_check 2 4 0
+refusal_check medium Unfitted = plain_check 2 4 0
+refusal_check medium Present = plain_check 2 4 0
+refusal_check medium Listed = plain_check 2 4 0
+refusal_check medium Second = plain_check 2 4 0
+refusal_check medium Clean = plain_check 2 4 0
+refusal_check medium Absent = plain_check 2 4 0
+refusal_check medium NotLost = plain_check 2 4 0
+
+-- ABORTED COMMAND, logical unit communication failure, where the delta was lost
+abbrev pub failure_check : Check → Failure → Check
+failure_check medium (Refused why) = refusal_check medium why
+failure_check medium Spoilt = plain_check 11 8 0
+
+-- where the sense points
+abbrev pub byte_text : Option ℕ → List ℕ
+byte_text None = []
+byte_text (Some byte) = codes " byte " ++ decimal byte
+
+abbrev pub check_text : Check → List ℕ
+check_text c = codes "check " ++ (upper_nibble c.key ∷ 32 ∷ (upper_byte c.asc ++ (47 ∷ (upper_byte c.ascq ++ byte_text c.byte))))
+
+-- GOOD, and the bytes read where there are some
+abbrev pub good_text : List ℕ → List ℕ
+good_text [] = codes "good"
+good_text (b ∷ bytes) = codes "good " ++ hex (b ∷ bytes)
+
+-- the answer to a call that reads or writes
+abbrev pub host_text : Check → List ℕ → Option Failure → List ℕ
+host_text medium bytes None = good_text bytes
+host_text medium bytes (Some failure) = check_text (failure_check medium failure)
+
+-- The answer to each kind of call, by the bytes that it was told and why it failed. A medium error is an
+-- unrecovered read error to a reader, and a write error to a writer.
+abbrev pub reply_text : Action → List ℕ → Option Failure → List ℕ
+reply_text (Read lba count) bytes failure = host_text (plain_check 3 17 0) bytes failure
+reply_text (Write lba sent) bytes failure = host_text (plain_check 3 12 0) bytes failure
+
+-- the line of the call with a number, by what it was told
+abbrev pub answer_line : ℕ → Call → List ℕ → Option Failure → List ℕ
+answer_line n call bytes failure = line (decimal n ++ (32 ∷ letter call.host ∷ 32 ∷ reply_text call.action bytes failure))
+
+-- the line of the call with a number, as a journal tells it
+abbrev pub reply_line : Geometry → List Entry → ℕ → Call → List ℕ
+reply_line g past n call = answer_line n call (bytes_read g n past) (failure_of n past)
+
+-- the lines of calls, numbered from n
+abbrev pub reply_lines : Geometry → List Entry → ℕ → List Call → List ℕ
+reply_lines g past n [] = []
+reply_lines g past n (call ∷ calls) = reply_line g past n call ++ reply_lines g past (n + 1) calls

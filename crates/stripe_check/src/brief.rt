@@ -1,0 +1,19 @@
+use array_journal::Kind;
+
+/// What a report needs of a task.
+#[derive(Clone, Copy, Debug, PartialEq, Eq)]
+pub struct Brief {
+    pub call: u32,
+    pub piece: u32,
+    pub kind: Kind,
+    pub stripe: u32,
+    pub target: u8,
+    pub parity: u8,
+}
+
+/// What is known of a command: its task, once it was opened, and whether it is closed as done.
+#[derive(Clone, Copy, Debug, PartialEq, Eq)]
+pub struct Command {
+    pub brief: Option<Brief>,
+    pub done: bool,
+}

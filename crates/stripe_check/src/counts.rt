@@ -1,0 +1,213 @@
+//! The lines of a report behind the answers.
+
+ghost use Rattle.std.specs.Prelude.{◌≡◌, ◌++◌, OnOk, IfOk};
+ghost use Rattle.stripe_layout.specs.Layout.{IsArray};
+ghost use Rattle.stripe_check.specs.Found.{any_lost, lost_stripes, lost_units, stripe_total, sums_to_zero, is_whole, zero_stripes, listed_count, dirty_briefly, listed_line, listed_lines, lost_lines, counts_line, entries_text};
+ghost use Rattle.stripe_check.specs.Reports.{absent_text};
+
+use crate::brief::{Brief, Command};
+use crate::commands::command_at;
+use crate::losses::Losses;
+use crate::medium::Medium;
+use crate::sums::parts_sum;
+use crate::text::push_counted;
+use blocks_core::{Bytes, Memory};
+use std::alloc::Global;
+use stripe_layout::Geometry;
+
+/// Whether some unit of a stripe was lost.
+fn is_any_lost(losses: &Losses, targets: u8, stripe: u32) -> bool
+    ensures { result ≡ any_lost losses.now.lost.items losses.now.made.items targets stripe }
+{
+    for target in 0..targets {
+        if losses.is_absent(usize::from(target), stripe as usize) {
+            return true;
+        }
+    }
+    false
+}
+
+/// How many stripes lost a unit.
+pub fn count_lost(losses: &Losses, geometry: &Geometry) -> u32
+    ensures { result ≡ lost_stripes losses.now.lost.items losses.now.made.items geometry.now.targets geometry.now.stripes }
+{
+    let mut count = 0;
+    for stripe in 0..geometry.stripes {
+        if is_any_lost(losses, geometry.targets, stripe) {
+            count += 1;
+        }
+    }
+    count
+}
+
+/// The exclusive-or of a stripe's rows over all media.
+pub fn stripe_sum(
+    alloc: Global,
+    geometry: &Geometry,
+    media: &[Medium],
+    stripe: u32,
+) -> Result<Medium, Memory>
+    requires { IsArray geometry.now }
+    ensures { IfOk result (λ sum. sum ≡ stripe_total geometry.now media.now stripe) }
+{
+    let unit = geometry.unit as usize;
+    let block = geometry.block as usize;
+    parts_sum(alloc, media, stripe as usize * unit * block, unit * block)
+}
+
+/// Whether it is zero.
+fn is_sum_zero(
+    alloc: Global,
+    geometry: &Geometry,
+    media: &[Medium],
+    stripe: u32,
+) -> Result<bool, Memory>
+    requires { IsArray geometry.now }
+    ensures { IfOk result (λ zero. zero ≡ sums_to_zero geometry.now media.now stripe) }
+{
+    let sum = stripe_sum(alloc, geometry, media, stripe)?;
+    Ok(sum.is_zero())
+}
+
+/// Whether a stripe has all its units, and comes to zero.
+fn is_whole(
+    alloc: Global,
+    geometry: &Geometry,
+    media: &[Medium],
+    losses: &Losses,
+    stripe: u32,
+) -> Result<bool, Memory>
+    requires { IsArray geometry.now }
+    ensures { IfOk result (λ whole. whole ≡ is_whole geometry.now media.now losses.now.lost.items losses.now.made.items stripe) }
+{
+    if is_any_lost(losses, geometry.targets, stripe) {
+        return Ok(false);
+    }
+    is_sum_zero(alloc, geometry, media, stripe)
+}
+
+/// How many stripes have all their units and come to zero.
+pub fn count_zero(
+    alloc: Global,
+    geometry: &Geometry,
+    media: &[Medium],
+    losses: &Losses,
+) -> Result<u32, Memory>
+    requires { IsArray geometry.now }
+    ensures { IfOk result (λ n. n ≡ zero_stripes geometry.now media.now losses.now.lost.items losses.now.made.items geometry.now.stripes) }
+{
+    let mut count = 0;
+    for stripe in 0..geometry.stripes {
+        let whole = is_whole(alloc, geometry, media, losses, stripe)?;
+        if whole {
+            count += 1;
+        }
+    }
+    Ok(count)
+}
+
+/// How many stripes are listed.
+pub fn count_listed(listed: &[Option<u32>]) -> usize
+    ensures { result ≡ listed_count listed.now }
+{
+    listed.iter().filter(|command| command.is_some()).count()
+}
+
+/// How many units a target lost.
+fn count_units(losses: &Losses, target: u8, stripes: u32) -> u32
+    ensures { result ≡ lost_units losses.now.lost.items losses.now.made.items stripes target }
+{
+    let mut count = 0;
+    for stripe in 0..stripes {
+        if losses.is_absent(usize::from(target), stripe as usize) {
+            count += 1;
+        }
+    }
+    count
+}
+
+pub fn push_entries(text: &mut Bytes, count: u64) -> Result<(), Memory>
+    ensures { OnOk result (text.new ≡ text.old ++ entries_text count) }
+{
+    push_counted(text, b"entries", count)?;
+    text.push(b'\n')
+}
+
+pub fn push_counts(
+    text: &mut Bytes,
+    stripes: u32,
+    zero: u32,
+    listed: usize,
+    absent: u32,
+) -> Result<(), Memory>
+    ensures { OnOk result (text.new ≡ text.old ++ counts_line stripes zero listed absent) }
+{
+    push_counted(text, b"stripes", u64::from(stripes))?;
+    push_counted(text, b" zero", u64::from(zero))?;
+    push_counted(text, b" listed", listed as u64)?;
+    push_counted(text, b" absent", u64::from(absent))?;
+    text.push(b'\n')
+}
+
+fn push_dirty(text: &mut Bytes, stripe: usize, brief: &Brief) -> Result<(), Memory>
+    ensures { OnOk result (text.new ≡ text.old ++ dirty_briefly stripe (Some brief.now)) }
+{
+    push_counted(text, b"dirty", stripe as u64)?;
+    push_counted(text, b" call", u64::from(brief.call))?;
+    push_counted(text, b" piece", u64::from(brief.piece))?;
+    text.push(b'\n')
+}
+
+/// The line of a stripe, if it is listed.
+fn push_listed(
+    text: &mut Bytes,
+    commands: &[Command],
+    stripe: usize,
+    listed: Option<u32>,
+) -> Result<(), Memory>
+    ensures { OnOk result (text.new ≡ text.old ++ listed_line commands.now stripe listed) }
+{
+    let Some(command) = listed else {
+        return Ok(());
+    };
+    match command_at(commands, command).brief {
+        Some(brief) => push_dirty(text, stripe, &brief),
+        None => Ok(()),
+    }
+}
+
+/// The lines of the listed stripes.
+pub fn push_all_listed(
+    text: &mut Bytes,
+    commands: &[Command],
+    listed: &[Option<u32>],
+) -> Result<(), Memory>
+    ensures { OnOk result (text.new ≡ text.old ++ listed_lines commands.now 0 listed.now) }
+{
+    for (stripe, command) in listed.iter().enumerate() {
+        push_listed(text, commands, stripe, *command)?;
+    }
+    Ok(())
+}
+
+/// The line of a target, if some of its units are absent.
+fn push_absent(text: &mut Bytes, target: u8, units: u32) -> Result<(), Memory>
+    ensures { OnOk result (text.new ≡ text.old ++ absent_text target units) }
+{
+    if units == 0 {
+        return Ok(());
+    }
+    push_counted(text, b"absent", u64::from(target))?;
+    push_counted(text, b" units", u64::from(units))?;
+    text.push(b'\n')
+}
+
+/// The lines of the targets with absent units.
+pub fn push_all_absent(text: &mut Bytes, losses: &Losses, geometry: &Geometry) -> Result<(), Memory>
+    ensures { OnOk result (text.new ≡ text.old ++ lost_lines losses.now.lost.items losses.now.made.items geometry.now.targets geometry.now.stripes) }
+{
+    for target in 0..geometry.targets {
+        push_absent(text, target, count_units(losses, target, geometry.stripes))?;
+    }
+    Ok(())
+}

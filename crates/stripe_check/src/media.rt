@@ -1,0 +1,87 @@
+//! The media of all targets, as a journal leaves them.
+
+ghost use Rattle.std.specs.Prelude.{◌≡◌, ◌+◌, ◌*◌, ◌≤◌, ◌<◌, ◌==◌, ℕ, [], ◌∷◌, List, length, get_or, OnOk, IfOk, reverse, if◌then◌else◌};
+ghost use Rattle.blocks_core.specs.Xor.{zeros};
+ghost use Rattle.stripe_layout.specs.Layout.{IsArray, rows_of};
+ghost use Rattle.array_journal.specs.Media.{medium_after, media};
+ghost use Rattle.array_journal.specs.declared.entry.Entry.{Entry};
+ghost use Rattle.stripe_check.specs.Folds.{AreMedia};
+
+use crate::medium::Medium;
+use array_journal::{Entry, Event, Journal, Setting};
+use blocks_core::Memory;
+use std::alloc::Global;
+use stripe_layout::Geometry;
+
+/// The bytes of all rows of a target.
+fn medium_size(geometry: &Geometry) -> usize
+    requires { IsArray geometry.now }
+    ensures { result ≡ rows_of geometry.now * geometry.now.block }
+{
+    geometry.stripes as usize * geometry.unit as usize * geometry.block as usize
+}
+
+/// What an event at a target does to its medium.
+fn write_event(
+    alloc: Global,
+    medium: &mut Medium,
+    setting: &Setting,
+    event: &Event,
+) -> Result<(), Memory>
+    requires { IsArray setting.now.geometry }
+    ensures { OnOk result (medium.new ≡ medium_after setting.now event.now medium.old) }
+{
+    let block = setting.geometry.block as usize;
+    match event {
+        Event::Put { row, bytes, .. } | Event::Diff { row, bytes, .. } => {
+            medium.put(*row as usize * block, bytes.as_slice())
+        }
+        Event::Fold { row, bytes, .. } => medium.fold(*row as usize * block, bytes.as_slice()),
+        Event::Fresh { .. } => {
+            *medium = Medium::zeros(alloc, medium_size(&setting.geometry))?;
+            Ok(())
+        }
+        _ => Ok(()),
+    }
+}
+
+/// What an entry does to the media: that of lock i + 1 is target i's.
+fn write_entry(
+    alloc: Global,
+    media: &mut Vec<Medium>,
+    setting: &Setting,
+    entry: &Entry,
+) -> Result<(), Memory>
+    requires { IsArray setting.now.geometry }
+    ensures { OnOk result ((past : List Entry) → AreMedia setting.now past media.old.items → AreMedia setting.now (entry.now ∷ past) media.new.items) }
+{
+    let lock = usize::from(entry.lock);
+    if lock == 0 || lock > media.len() {
+        return Ok(());
+    }
+    write_event(alloc, &mut media[lock - 1], setting, &entry.event)
+}
+
+/// The media before any entry.
+fn first_media(alloc: Global, setting: &Setting) -> Result<Vec<Medium>, Memory>
+    requires { IsArray setting.now.geometry }
+    ensures { IfOk result (λ m. AreMedia setting.now [] m.items) }
+{
+    let mut media = Vec::new(alloc);
+    for _ in 0..setting.geometry.targets {
+        media.push(Medium::zeros(alloc, medium_size(&setting.geometry))?)?;
+    }
+    Ok(media)
+}
+
+/// The media after all entries of a journal.
+pub fn media_of(alloc: Global, setting: &Setting, journal: &Journal) -> Result<Vec<Medium>, Memory>
+    requires { IsArray setting.now.geometry }
+    ensures { IfOk result (λ m. AreMedia setting.now (reverse journal.now) m.items) }
+{
+    let mut media = first_media(alloc, setting)?;
+    for entry in journal.as_slice() {
+        write_entry(alloc, &mut media, setting, entry)?;
+    }
+    Ok(media)
+}

@@ -1,0 +1,151 @@
+//! The answers to calls, and their lines.
+
+ghost use Rattle.std.specs.Prelude.{◌≡◌, ◌<◌, ◌++◌, ◌∷◌, OnOk};
+ghost use Rattle.stripe_check.specs.Texts.{upper_byte};
+ghost use Rattle.stripe_check.specs.Replies.{plain_check, sense_check, refusal_check, failure_check, byte_text, check_text, good_text, host_text, reply_text, answer_line};
+
+use crate::check::{Check, Failure};
+use crate::text::{push_hex, push_number, push_upper_byte, upper_nibble};
+use array_journal::Why;
+use blocks_core::{Bytes, Memory};
+use host_scripts::{Action, Call};
+use sense_data::Sense;
+
+/// The check of a sense.
+fn check_of(sense: &Sense) -> Check
+    ensures { result ≡ sense_check sense.now }
+{
+    Check {
+        key: sense.key,
+        asc: sense.asc,
+        ascq: sense.ascq,
+        byte: sense.pointer.map(|pointer| pointer.byte),
+    }
+}
+
+/// A check that points at nothing.
+fn plain_check(key: u8, asc: u8, ascq: u8) -> Check
+    ensures { result ≡ plain_check key asc ascq }
+{
+    Check {
+        key,
+        asc,
+        ascq,
+        byte: None,
+    }
+}
+
+/// The check of a piece that is refused, where a medium error has the one given.
+fn refusal_check(medium: Check, why: &Why) -> Check
+    requires { medium.key < 16 }
+    ensures check { result ≡ refusal_check medium why.now }
+    ensures key { result.key < 16 }
+{
+    match why {
+        Why::Illegal { sense } => check_of(sense),
+        Why::Medium => medium,
+        _ => plain_check(2, 4, 0),
+    }
+}
+
+/// The check of a call that failed.
+fn failure_check(medium: Check, failure: &Failure) -> Check
+    requires { medium.key < 16 }
+    ensures check { result ≡ failure_check medium failure.now }
+    ensures key { result.key < 16 }
+{
+    match failure {
+        Failure::Refused { why } => refusal_check(medium, why),
+        Failure::Spoilt => plain_check(11, 8, 0),
+    }
+}
+
+fn push_byte_pointer(text: &mut Bytes, byte: Option<u16>) -> Result<(), Memory>
+    ensures { OnOk result (text.new ≡ text.old ++ byte_text byte) }
+{
+    match byte {
+        None => Ok(()),
+        Some(byte) => {
+            text.push_slice(b" byte ")?;
+            push_number(text, u64::from(byte))
+        }
+    }
+}
+
+fn push_codes(text: &mut Bytes, check: &Check) -> Result<(), Memory>
+    ensures { OnOk result (text.new ≡ text.old ++ (upper_byte check.now.asc ++ (47 ∷ upper_byte check.now.ascq))) }
+{
+    push_upper_byte(text, check.asc)?;
+    text.push(b'/')?;
+    push_upper_byte(text, check.ascq)
+}
+
+fn push_check(text: &mut Bytes, check: &Check) -> Result<(), Memory>
+    requires { check.now.key < 16 }
+    ensures { OnOk result (text.new ≡ text.old ++ check_text check.now) }
+{
+    text.push_slice(b"check ")?;
+    text.push(upper_nibble(check.key))?;
+    text.push(b' ')?;
+    push_codes(text, check)?;
+    push_byte_pointer(text, check.byte)
+}
+
+fn push_good(text: &mut Bytes, bytes: &[u8]) -> Result<(), Memory>
+    ensures { OnOk result (text.new ≡ text.old ++ good_text bytes.now) }
+{
+    text.push_slice(b"good")?;
+    if bytes.is_empty() {
+        return Ok(());
+    }
+    text.push(b' ')?;
+    push_hex(text, bytes)
+}
+
+/// The answer to a call that reads or writes.
+fn push_host_answer(
+    text: &mut Bytes,
+    medium: Check,
+    bytes: &[u8],
+    failure: &Option<Failure>,
+) -> Result<(), Memory>
+    requires { medium.key < 16 }
+    ensures { OnOk result (text.new ≡ text.old ++ host_text medium bytes.now failure.now) }
+{
+    match failure {
+        None => push_good(text, bytes),
+        Some(failure) => push_check(text, &failure_check(medium, failure)),
+    }
+}
+
+/// The answer to a call that was told these bytes, and why it failed if it did.
+fn push_answer(
+    text: &mut Bytes,
+    action: &Action,
+    bytes: &[u8],
+    failure: &Option<Failure>,
+) -> Result<(), Memory>
+    ensures { OnOk result (text.new ≡ text.old ++ reply_text action.now bytes.now failure.now) }
+{
+    match action {
+        Action::Read { .. } => push_host_answer(text, plain_check(3, 0x11, 0), bytes, failure),
+        Action::Write { .. } => push_host_answer(text, plain_check(3, 0x0c, 0), bytes, failure),
+    }
+}
+
+/// The line of the call with a number.
+pub fn push_reply(
+    text: &mut Bytes,
+    number: u64,
+    call: &Call,
+    bytes: &[u8],
+    failure: &Option<Failure>,
+) -> Result<(), Memory>
+    requires { call.now.host < 26 }
+    ensures { OnOk result (text.new ≡ text.old ++ answer_line number call.now bytes.now failure.now) }
+{
+    push_number(text, number)?;
+    text.push_slice(&[b' ', b'A' + call.host, b' '])?;
+    push_answer(text, &call.action, bytes, failure)?;
+    text.push(b'\n')
+}

@@ -1,0 +1,67 @@
+//! What a journal tells of the calls, commands and stripes.
+
+ghost use Rattle.std.specs.Prelude.{◌≡◌, ℕ, [], ◌∷◌, List, length, reverse, OnOk, IfOk};
+ghost use Rattle.array_journal.specs.declared.entry.Entry.{Entry};
+ghost use Rattle.stripe_check.specs.Stories.{Tells};
+
+use crate::answers::{keep_failure, keep_read};
+use crate::brief::Command;
+use crate::check::Failure;
+use crate::commands::keep_command;
+use crate::listed::keep_listed;
+use array_journal::{Entry, Journal};
+use blocks_core::{Bytes, Memory};
+use std::alloc::Global;
+
+/// What the entries so far tell: of each command; to each call, and why it failed; and which stripes
+/// are listed, with their commands.
+#[derive(Drop)]
+pub struct Story {
+    pub commands: Vec<Command>,
+    pub reads: Vec<Bytes>,
+    pub failures: Vec<Option<Failure>>,
+    pub listed: Vec<Option<u32>>,
+}
+
+/// Nothing is told yet, of so many calls and stripes.
+fn first_story(alloc: Global, calls: usize, stripes: usize) -> Result<Story, Memory>
+    ensures { IfOk result (λ story. Tells calls stripes [] story.commands.items story.reads.items story.failures.items story.listed.items) }
+{
+    let mut reads = Vec::new(alloc);
+    for _ in 0..calls {
+        reads.push(Bytes::new(alloc))?;
+    }
+    Ok(Story {
+        commands: Vec::new(alloc),
+        reads,
+        failures: vec![in alloc; None; calls]?,
+        listed: vec![in alloc; None; stripes]?,
+    })
+}
+
+/// What one more entry tells.
+fn tell(story: &mut Story, entry: &Entry) -> Result<(), Memory>
+    ensures { OnOk result ((calls stripes : ℕ) (past : List Entry) → Tells calls stripes past story.old.commands.items story.old.reads.items story.old.failures.items story.old.listed.items
+        → Tells calls stripes (entry.now ∷ past) story.new.commands.items story.new.reads.items story.new.failures.items story.new.listed.items) }
+{
+    keep_read(&mut story.reads, &story.commands, entry)?;
+    keep_failure(&mut story.failures, &story.commands, entry);
+    keep_listed(&mut story.listed, &story.commands, entry);
+    keep_command(&mut story.commands, entry)
+}
+
+/// What a journal tells of so many calls and stripes.
+pub fn story_of(
+    alloc: Global,
+    calls: usize,
+    stripes: usize,
+    journal: &Journal,
+) -> Result<Story, Memory>
+    ensures { IfOk result (λ story. Tells calls stripes (reverse journal.now) story.commands.items story.reads.items story.failures.items story.listed.items) }
+{
+    let mut story = first_story(alloc, calls, stripes)?;
+    for entry in journal.as_slice() {
+        tell(&mut story, entry)?;
+    }
+    Ok(story)
+}
