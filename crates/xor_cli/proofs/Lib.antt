@@ -1,0 +1,11 @@
+pub mod Known
+pub mod Work
+pub mod Ends
+pub mod Journals
+pub mod Updates
+pub mod ServedReads
+pub mod TaskRanges
+pub mod ServedUpdates
+pub mod UpdateMade
+pub mod FirstCalls
+pub mod CallCount

@@ -1,0 +1,10 @@
+pub mod Outside
+pub mod Words
+pub mod Headline
+pub mod Endings
+pub mod Statuses
+pub mod Faults
+pub mod Disks
+pub mod Serving
+pub mod Asked
+pub mod Rest

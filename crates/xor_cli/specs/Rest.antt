@@ -1,0 +1,46 @@
+-- A controller between two calls, and what serving a piece makes of it.
+use Rattle.std.specs.Prelude.{◌≡◌, ◌<◌, ◌≤◌, ℕ, Bool, true, false, List, [], ◌∷◌, ◌++◌, length, reverse}
+use Rattle.array_journal.specs.declared.entry.Entry.{Entry}
+use Rattle.array_journal.specs.declared.task.Task.{Task}
+use Rattle.array_journal.specs.declared.setting.Setting.{Setting}
+use Rattle.array_journal.specs.Acts.{is_third_party}
+use Rattle.array_journal.specs.Commands.{open_count}
+use Rattle.array_journal.specs.Media.{media}
+use Rattle.array_journal.specs.May.{IsTask}
+use Rattle.array_journal.specs.Run.{IsSetting}
+use Rattle.array_journal.specs.Calm.{Calm}
+use Rattle.xor_cli.specs.Disks.{Disk, disk_of}
+use Rattle.xor_cli.specs.Asked.{IsAnswer}
+use Rattle.xor_cli.specs.declared.array.controller.Controller.{Controller}
+
+-- neither the setting nor the count of commands changes
+pub record IsSameArray (old new : Controller) : Type 0 where
+  pub setting : new.setting ≡ old.setting
+  pub commands : new.commands ≡ old.commands
+
+-- the targets have the media of the journal
+pub record HasMedia (s : Setting) (disks : List Disk) (past : List Entry) : Type 0 where
+  pub count : length disks ≡ s.geometry.targets
+  pub media : (i : ℕ) → i < s.geometry.targets → (disk_of disks i).medium ≡ media s i past
+
+-- no command is open, and targets and book are as the journal says
+pub record IsRest (s : Setting) (commands : ℕ) (journal : List Entry) (disks : List Disk) : Type 0 where
+  pub setting : IsSetting s
+  pub supervised : is_third_party s.mode ≡ false
+  pub calm : Calm s (reverse journal)
+  pub counted : commands ≡ open_count (reverse journal)
+  pub targets : HasMedia s disks (reverse journal)
+
+abbrev pub IsAtRest : Controller → Type 0
+IsAtRest c = IsRest c.setting c.commands c.journal c.targets.items
+
+-- a task that a controller at rest serves at once: blocks that fit its buffers
+pub record IsServable (s : Setting) (task : Task) : Type 0 where
+  pub sound : IsTask s task
+  pub fits : task.count ≤ s.buffer
+
+-- a command with this task was served, and the controller is at rest again
+pub record IsServed (old new : Controller) (task : Task) : Type 0 where
+  pub rest : IsAtRest new
+  pub setting : new.setting ≡ old.setting
+  pub answered : (own : List Entry) × ((new.journal ≡ old.journal ++ own) × IsAnswer task own)
