@@ -1,0 +1,61 @@
+ghost use Rattle.std.specs.Prelude.{◌≡◌, ◌≤◌, ◌+◌, length, take, IfOk, OnOk, IfSome, IsErrOf};
+ghost use Rattle.outer_io.specs.Outside.{HasRisen};
+ghost use Rattle.outer_io.specs.Outside.{input_limit};
+
+use crate::traits::{Failed, Source};
+use blocks_core::{Bytes, Memory};
+use std::alloc::Global;
+
+/// The most bytes of an input.
+pub const READ_LIMIT: usize = 50_331_648;
+
+/// How many bytes are asked for at a time.
+const CHUNK: usize = 8192;
+
+/// Why an input wasn't read.
+#[derive(Clone, Copy, Debug, PartialEq, Eq)]
+pub enum InputFault {
+    Failed,
+    Memory,
+}
+
+impl From<Memory> for InputFault {
+    ghost use Rattle.std.specs.Prelude.{◌≡◌};
+    ghost use Rattle.outer_io.specs.declared.input.InputFault.TheVariants as faults;
+
+    ghost from_gives = { λ _ e. e ≡ faults.Memory };
+
+    fn from(_error: Memory) -> InputFault {
+        InputFault::Memory
+    }
+}
+
+impl From<Failed> for InputFault {
+    ghost use Rattle.std.specs.Prelude.{◌≡◌};
+    ghost use Rattle.outer_io.specs.declared.input.InputFault.TheVariants as faults;
+
+    ghost from_gives = { λ _ e. e ≡ faults.Failed };
+
+    fn from(_error: Failed) -> InputFault {
+        InputFault::Failed
+    }
+}
+
+/// Reads a source to its end, or to one byte past the limit.
+pub fn read_input<S: Source>(alloc: Global, source: &mut S) -> Result<Bytes, InputFault>
+    ensures bytes { IfOk result (λ bytes. IfSome (S.left source.old) (λ left. bytes ≡ take (input_limit + 1) left)) }
+    ensures bound { IfOk result (λ bytes. length bytes ≤ input_limit + 1) }
+    ensures failed { IsErrOf result InputFault.Failed → HasRisen (S.faults source.old) (S.faults source.new) }
+{
+    let mut bytes = Bytes::new(alloc);
+    let mut chunk = [0; CHUNK];
+    while bytes.len() <= READ_LIMIT {
+        let room = CHUNK.min(READ_LIMIT + 1 - bytes.len());
+        let count = source.read(&mut chunk[..room])?;
+        if count == 0 {
+            return Ok(bytes);
+        }
+        bytes.push_slice(&chunk[..count])?;
+    }
+    Ok(bytes)
+}
