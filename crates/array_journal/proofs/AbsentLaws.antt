@@ -111,17 +111,17 @@ named-swaps s i opened c task (e ∷ past) g book h = elim (entry_at-cases opene
         (and_from (e.lock == 0) (opens_command c e.event) (eq-eqb e.lock 0 (sym here.0.1 ∙ book)) (ap (opens_command c) here.1 ∙ eq-eqb c c refl)) in omega arith
 
 -- an event that opens such a rebuild
-opens-rebuilt : (whole : List Entry) (i stripe : ℕ) (event : Event) → opens_rebuilt whole i stripe event ≡ true →
+pub opens-rebuilt : (whole : List Entry) (i stripe : ℕ) (event : Event) → opens_rebuilt whole i stripe event ≡ true →
     (c : ℕ) × ((task : Task) × ((event ≡ Open c task) × (has_rebuilt whole i stripe c ≡ true)))
 opens-rebuilt whole i stripe (Open command task) h = (command, (task, (refl, h)))
 opens-rebuilt whole i stripe _ h = absurd (false≢true h)
 
-puts-rebuilt : (whole : List Entry) (i stripe : ℕ) (event : Event) → puts_rebuilt whole i stripe event ≡ true →
+pub puts-rebuilt : (whole : List Entry) (i stripe : ℕ) (event : Event) → puts_rebuilt whole i stripe event ≡ true →
     (c : ℕ) × ((is_act Puts c event ≡ true) × (has_rebuilt whole i stripe c ≡ true))
 puts-rebuilt whole i stripe (Put command opened cdb row bytes names) h = (command, (eq-eqb command command refl, h))
 puts-rebuilt whole i stripe _ h = absurd (false≢true h)
 
-put-puts : (whole : List Entry) (i stripe c : ℕ) (event : Event) → is_act Puts c event ≡ true → has_rebuilt whole i stripe c ≡ true →
+pub put-puts : (whole : List Entry) (i stripe c : ℕ) (event : Event) → is_act Puts c event ≡ true → has_rebuilt whole i stripe c ≡ true →
     puts_rebuilt whole i stripe event ≡ true
 put-puts whole i stripe c (Put command opened cdb row bytes names) h r =
     subst (λ (d : ℕ). has_rebuilt whole i stripe d ≡ true) (sym (eqb-true command c h)) r
@@ -137,7 +137,7 @@ pub record IsRebuild (i stripe : ℕ) (task : Task) : Type 0 where
   pub at_target : task.target ≡ i
   pub of_stripe : task.stripe ≡ stripe
 
-rebuild-task : (i stripe : ℕ) (task : Task) → rebuilds i stripe (Some task) ≡ true → IsRebuild i stripe task
+pub rebuild-task : (i stripe : ℕ) (task : Task) → rebuilds i stripe (Some task) ≡ true → IsRebuild i stripe task
 rebuild-task i stripe task h =
     let a : ((is_rebuild task.kind && (task.target == i)) ≡ true) × ((task.stripe == stripe) ≡ true) =
     and_parts (is_rebuild task.kind && (task.target == i)) (task.stripe == stripe) h in
@@ -166,7 +166,7 @@ Agrees whole past = (c : ℕ) (task : Task) → task_of c past ≡ Some task →
 agrees-older : (s : Setting) (whole : List Entry) (e : Entry) (past : List Entry) → Grows s (e ∷ past) → Agrees whole (e ∷ past) → Agrees whole past
 agrees-older s whole e past g all c task h = all c task (task_of-more s c e past task g.1 g.0.1 h)
 
-opened-task : (c : ℕ) (task : Task) (e : Entry) (past : List Entry) → e.lock ≡ 0 → e.event ≡ Open c task → task_of c (e ∷ past) ≡ Some task
+pub opened-task : (c : ℕ) (task : Task) (e : Entry) (past : List Entry) → e.lock ≡ 0 → e.event ≡ Open c task → task_of c (e ∷ past) ≡ Some task
 opened-task c task e past book q =
     ap (λ b. first_task (cond b (task_given c e.event) None) (task_of c past)) (eq-eqb e.lock 0 book)
     ∙ ap (λ (x : Event). first_task (task_given c x) (task_of c past)) q
@@ -441,7 +441,7 @@ task-sound s c task (e ∷ past) g q = elim (cases_Bool ((e.lock == 0) && opens_
         let m : MayOpen s past c o.0 = subst (λ (x : Event). MayBook s past e.stamp x) o.1 (may-book s past e.stamp e.lock e.event book g.0.1.1) in
         subst (λ (x : Task). IsTask s x) same m.sound
 
-done-ends : (c : ℕ) (event : Event) → closes_done c event ≡ true → ends_command c event ≡ true
+pub done-ends : (c : ℕ) (event : Event) → closes_done c event ≡ true → ends_command c event ≡ true
 done-ends c (Close command true names cause bytes) h = h
 done-ends c (Close command false names cause bytes) h = absurd (false≢true h)
 done-ends c _ h = absurd (false≢true h)
@@ -452,7 +452,7 @@ done-named : (s : Setting) (past : List Entry) (stamp c i : ℕ) (names : List A
 done-named s past stamp c i names None bytes task m h = named-made past c i Puts names (m.acts.puts i h)
 done-named s past stamp c i names (Some cause) bytes task m h = named-made past c i Puts names (m.acts.puts i h)
 
-done-put : (s : Setting) (past : List Entry) (stamp c i : ℕ) (event : Event) (task : Task) → MayBook s past stamp event → closes_done c event ≡ true →
+pub done-put : (s : Setting) (past : List Entry) (stamp c i : ℕ) (event : Event) (task : Task) → MayBook s past stamp event → closes_done c event ≡ true →
     task_of c past ≡ Some task → has_act s Puts task i ≡ true → some_at (i + 1) (is_act Puts c) past ≡ true
 done-put s past stamp c i (Close command true names cause bytes) task m h q has =
     let same : command ≡ c = eqb-true command c h in
@@ -477,7 +477,7 @@ done-puts s i c task (e ∷ past) g h q has = elim (some_at-cases 0 (closes_done
     before : some_at 0 (opens_command c) past ≡ true → task_of c past ≡ Some task
     before opened = sym (older-task c e past (λ both. both_ways (opens_command c e.event) (opened-once s c e past g.1 g.0.1 both.0 opened) both.1)) ∙ q
 
-rebuilds-some : (i stripe : ℕ) (found : Option Task) → rebuilds i stripe found ≡ true → (task : Task) × ((found ≡ Some task) × IsRebuild i stripe task)
+pub rebuilds-some : (i stripe : ℕ) (found : Option Task) → rebuilds i stripe found ≡ true → (task : Task) × ((found ≡ Some task) × IsRebuild i stripe task)
 rebuilds-some i stripe None h = absurd (false≢true h)
 rebuilds-some i stripe (Some task) h = (task, (refl, rebuild-task i stripe task h))
 
@@ -551,7 +551,7 @@ absent-exactly s i stripe past g =
     ∙ sym (ap (λ b. b || is_gone i past) (missing-here s i stripe past g))
 
 -- what a rebuild that is done counts, it counts after more entries
-has_rebuilt-more : (s : Setting) (i stripe c : ℕ) (e : Entry) (past : List Entry) → Grows s (e ∷ past) → has_rebuilt past i stripe c ≡ true →
+pub has_rebuilt-more : (s : Setting) (i stripe c : ℕ) (e : Entry) (past : List Entry) → Grows s (e ∷ past) → has_rebuilt past i stripe c ≡ true →
     has_rebuilt (e ∷ past) i stripe c ≡ true
 has_rebuilt-more s i stripe c e past g h =
     let parts : (rebuilds i stripe (task_of c past) ≡ true) × (some_at 0 (closes_done c) past ≡ true) =

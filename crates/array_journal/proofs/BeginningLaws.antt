@@ -23,7 +23,7 @@ beginning-run s journal n g =
     (subst (Grows s) (sym (ap (λ (j : List Entry). reverse j) (take-append-drop n journal)) ∙ reverse-append (take n journal) (drop n journal)) g)
 
 -- the order of names
-lt-cases : (a b : At) → at_lt a b ≡ true → (a.stamp < b.stamp) ⊎ ((a.stamp ≡ b.stamp) × (a.lock < b.lock))
+pub lt-cases : (a b : At) → at_lt a b ≡ true → (a.stamp < b.stamp) ⊎ ((a.stamp ≡ b.stamp) × (a.lock < b.lock))
 lt-cases a b h = elim (or_cases (nat_lt a.stamp b.stamp) ((a.stamp == b.stamp) && nat_lt a.lock b.lock) h) [
   | inl less ↦ inl (ltb-true a.stamp b.stamp less)
   | inr same ↦ let both : ((a.stamp == b.stamp) ≡ true) × (nat_lt a.lock b.lock ≡ true) = and_parts (a.stamp == b.stamp) (nat_lt a.lock b.lock) same in
@@ -36,7 +36,7 @@ lt-from a b (inr (same, less)) =
     or_right (nat_lt a.stamp b.stamp) ((a.stamp == b.stamp) && nat_lt a.lock b.lock)
     (and_from (a.stamp == b.stamp) (nat_lt a.lock b.lock) (eq-eqb a.stamp b.stamp same) (lt-ltb a.lock b.lock less))
 
-lt-trans : (a b c : At) → at_lt a b ≡ true → at_lt b c ≡ true → at_lt a c ≡ true
+pub lt-trans : (a b c : At) → at_lt a b ≡ true → at_lt b c ≡ true → at_lt a c ≡ true
 lt-trans a b c h k = lt-from a c (join (lt-cases a b h) (lt-cases b c k))
   where
     join : (a.stamp < b.stamp) ⊎ ((a.stamp ≡ b.stamp) × (a.lock < b.lock)) → (b.stamp < c.stamp) ⊎ ((b.stamp ≡ c.stamp) × (b.lock < c.lock)) →

@@ -1,22 +1,18 @@
 -- In a journal of reads and supervised updates alone: what stands of the next command, and room for it.
 use Rattle.std.specs.Prelude.{◌≡◌, ◌==◌, ◌<◌, ◌≤◌, nat_lt, not, ℕ, ◌+◌, Bool, true, false, List, [], ◌∷◌, Option, Some, None}
-use Rattle.std.specs.List.{AllByRecursion}
 use Rattle.std.proofs.Common.{refl, ap, ◌∙◌, cond, arith}
 use Rattle.std.proofs.lemmas.Bool.{ne_eqb, lt-ltb, le-leb, or_from, and_left, and_right, or_right, and_from}
-use Rattle.array_journal.specs.declared.at.At.{At}
 use Rattle.array_journal.specs.declared.entry.Entry.{Entry}
 use Rattle.array_journal.specs.declared.event.Event.{Event}
 use Rattle.array_journal.specs.declared.event.Event.TheVariants.{Fetch, Diff, Take, Fold, Open, Close}
 use Rattle.array_journal.specs.declared.setting.Setting.{Setting}
 use Rattle.array_journal.specs.declared.task.Task.{Task}
-use Rattle.array_journal.specs.Entries.{entry_at, some_at, stamps_below}
-use Rattle.array_journal.specs.Commands.{opens_command, ends_command, is_open, task_given, task_of, first_task}
-use Rattle.array_journal.specs.Acts.{Act, Fetches, Diffs, Takes, Folds, is_act}
-use Rattle.array_journal.specs.Deltas.{has_acted}
+use Rattle.array_journal.specs.Entries.{some_at, stamps_below}
+use Rattle.array_journal.specs.Commands.{ends_command, is_open}
+use Rattle.array_journal.specs.Acts.{Fetches, Diffs, Takes, Folds, is_act}
 use Rattle.array_journal.specs.Decision.{opens_conflict, holder_of, count_of, held_count, has_room_at, has_room, holds_at}
 use Rattle.array_journal.specs.Run.{NoneOpen}
-use Rattle.array_journal.specs.Calm.{IsCalmEvent, IsFolded}
-use Rattle.array_journal.proofs.Steps.{entry_at-else}
+use Rattle.array_journal.specs.Calm.{IsCalmEvent}
 use Rattle.array_journal.proofs.CalmEntries.{AllCalm}
 
 pub below_other : (m n : ℕ) → m < n → m ≡ n → ⊥
@@ -29,13 +25,7 @@ stamps_below-calm lock stamp t c (e ∷ past) h p =
     and_from _ _ (or_right (not (e.lock == lock)) (nat_lt e.stamp stamp) (lt-ltb e.stamp stamp (omega (arith, p.0.stamp))))
     (stamps_below-calm lock stamp t c past h p.1)
 
--- nothing calm has a later name
-pub entry_at-calm : (name : At) (t c : ℕ) (past : List Entry) → t < name.stamp → AllCalm t c past → entry_at name past ≡ None
-entry_at-calm name t c [] h p = refl
-entry_at-calm name t c (e ∷ past) h p =
-    entry_at-else name e past (λ k. omega (arith, p.0.stamp)) ∙ entry_at-calm name t c past h p.1
-
--- no calm event is an act, an end or an opening of the next command
+-- no calm event is an act or an end of the next command
 pub calm-no_fetches : (c : ℕ) (e : Event) → IsCalmEvent c e → is_act Fetches c e ≡ false
 calm-no_fetches c (Fetch command opened cdb row bytes) p = ne_eqb command c (below_other command c p)
 calm-no_fetches c (Diff command opened cdb row bytes sent dropped) p = refl
@@ -72,15 +62,6 @@ calm-no_folds c (Open command task) p = refl
 calm-no_folds c (Close command done names cause bytes) p = refl
 calm-no_folds c _ p = absurd p
 
-pub calm-no_opening : (c : ℕ) (e : Event) → IsCalmEvent c e → opens_command c e ≡ false
-calm-no_opening c (Fetch command opened cdb row bytes) p = refl
-calm-no_opening c (Diff command opened cdb row bytes sent dropped) p = refl
-calm-no_opening c (Take command opened cdb row bytes) p = refl
-calm-no_opening c (Fold command opened cdb row bytes names) p = refl
-calm-no_opening c (Open command task) p = ne_eqb command c (below_other command c p)
-calm-no_opening c (Close command done names cause bytes) p = refl
-calm-no_opening c _ p = absurd p
-
 pub calm-no_end : (c : ℕ) (e : Event) → IsCalmEvent c e → ends_command c e ≡ false
 calm-no_end c (Fetch command opened cdb row bytes) p = refl
 calm-no_end c (Diff command opened cdb row bytes sent dropped) p = refl
@@ -89,25 +70,6 @@ calm-no_end c (Fold command opened cdb row bytes names) p = refl
 calm-no_end c (Open command task) p = refl
 calm-no_end c (Close command done names cause bytes) p = ne_eqb command c (below_other command c p.0)
 calm-no_end c _ p = absurd p
-
-pub calm-no_task : (c : ℕ) (e : Event) → IsCalmEvent c e → task_given c e ≡ None
-calm-no_task c (Fetch command opened cdb row bytes) p = refl
-calm-no_task c (Diff command opened cdb row bytes sent dropped) p = refl
-calm-no_task c (Take command opened cdb row bytes) p = refl
-calm-no_task c (Fold command opened cdb row bytes names) p = refl
-calm-no_task c (Open command task) p = ap (λ b. cond b (Some task) None) (ne_eqb command c (below_other command c p))
-calm-no_task c (Close command done names cause bytes) p = refl
-calm-no_task c _ p = absurd p
-
-pub task_of-calm : (t c : ℕ) (past : List Entry) → AllCalm t c past → task_of c past ≡ None
-task_of-calm t c [] p = refl
-task_of-calm t c (e ∷ past) p =
-    ap (λ o. first_task (cond (e.lock == 0) o None) (task_of c past)) (calm-no_task c e.event p.0.event)
-    ∙ ap (λ o. first_task o (task_of c past)) (same-both (e.lock == 0) None) ∙ task_of-calm t c past p.1
-  where
-    same-both : (b : Bool) (o : Option Task) → cond b o o ≡ o
-    same-both true o = refl
-    same-both false o = refl
 
 -- what no event says, no entry says
 pub some_at-never : (lock : ℕ) (test : Event → Bool) (past : List Entry) → ((e : Event) → test e ≡ false) → some_at lock test past ≡ false
@@ -144,20 +106,3 @@ room_at-calm s task past (Some i) h k =
 
 pub room-calm : (s : Setting) (task : Task) (past : List Entry) → NoneOpen past → task.count ≤ s.buffer → has_room s task past ≡ true
 room-calm s task past h k = room_at-calm s task past (holder_of s task.kind task) h k
-
--- what a command did, it did in more entries
-pub has_acted-more : (act : Act) (c : ℕ) (e : Entry) (past : List Entry) → has_acted act c past ≡ true → has_acted act c (e ∷ past) ≡ true
-has_acted-more act c e past h = either (is_act act c e.event) (has_acted act c past) h
-  where
-    either : (a b : Bool) → b ≡ true → cond a true b ≡ true
-    either true b h = refl
-    either false b h = h
-
-folded_event-more : (e : Entry) (whole : List Entry) (event : Event) → IsFolded whole event → IsFolded (e ∷ whole) event
-folded_event-more e whole (Diff command opened cdb row bytes sent dropped) p = has_acted-more Folds command e whole p
-folded_event-more e whole _ p = tt
-
-pub folded-more : (e : Entry) (whole past : List Entry) → AllByRecursion (λ (x : Entry). IsFolded whole x.event) past →
-    AllByRecursion (λ (x : Entry). IsFolded (e ∷ whole) x.event) past
-folded-more e whole [] p = tt
-folded-more e whole (x ∷ past) p = (folded_event-more e whole x.event p.0, folded-more e whole past p.1)

@@ -15,6 +15,10 @@ use Rattle.array_journal.specs.Run.{Grows}
 use Rattle.array_journal.proofs.Steps.{task_of-quiet}
 use Rattle.array_journal.proofs.Standing.{may-book, some_at-cases, some_at-more, some_at-newest, count_at-here, count_at-more, IsNameOf, entry_at-cases, passes-said, some-named}
 
+-- a command has one task
+pub one_task : (x y : Task) → Some x ≡ Some y → x ≡ y
+one_task x y k = cc
+
 -- an opening has the number of those before it
 pub opens-number : (s : Setting) (past : List Entry) (stamp c : ℕ) (event : Event) → MayBook s past stamp event → opens_command c event ≡ true →
     (c ≡ open_count past) × (opens event ≡ true)

@@ -153,7 +153,7 @@ target-of_act s act task i h =
     one_of Holds a b c d e f p q r t u v = or_right (a || b || c || d || e) f (v refl)
 
 -- each of the targets has one of the named entries
-named-each : (past : List Entry) (stamp i : ℕ) (test : Event → Bool) (passing : ℕ → Bool) (n first : ℕ) (names : List At) →
+pub named-each : (past : List Entry) (stamp i : ℕ) (test : Event → Bool) (passing : ℕ → Bool) (n first : ℕ) (names : List At) →
     NamesAt past stamp (filter passing (numbers first n)) test names → first ≤ i → i < first + n → passing i ≡ true → some_at (i + 1) test past ≡ true
 named-each past stamp i test passing zero first names h low high k = absurd (omega arith)
 named-each past stamp i test passing (suc n) first names h low high k =
@@ -174,7 +174,7 @@ named-each past stamp i test passing (suc n) first names h low high k =
       | inr other ↦ rec found p (omega arith)
     ]
 
-shut-idle : (c : ℕ) (event : Event) → shuts_idle c event ≡ true → shuts_command c event ≡ true
+pub shut-idle : (c : ℕ) (event : Event) → shuts_idle c event ≡ true → shuts_command c event ≡ true
 shut-idle c (Shut command opened false lost) h = h
 shut-idle c (Shut command opened true lost) h = absurd (false≢true h)
 shut-idle c _ h = absurd (false≢true h)

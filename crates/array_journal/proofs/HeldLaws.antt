@@ -35,7 +35,7 @@ use Rattle.array_journal.proofs.HeldOwners.{has_owner-joined, kept-owner, found-
 use Rattle.array_journal.proofs.EndedCommands.{Bar, made, is_shut, is_lost, is_emptied, ended-barred, fresh-le_before, taken-bytes, act-open}
 use Rattle.array_journal.proofs.WindowLaws.{open-apart}
 use Rattle.array_journal.proofs.AbsentLaws.{task-sound}
-use Rattle.array_journal.proofs.OwedDeltas.{covers-beside}
+use Rattle.array_journal.proofs.CoveredRows.{covers-beside}
 
 -- Held blocks: of an opened command that takes its task's rows here, neither taken nor shut, and held since its disk
 -- came.
@@ -60,14 +60,14 @@ AreDistinct [] = Unit {0}
 AreDistinct (h ∷ hs) = (has_owner h.owner hs ≡ false) × AreDistinct hs
 
 -- held blocks of a list, one by one
-all-owned : (P Q : HeldBlocks → Type 0) (hs : List HeldBlocks) → ((h : HeldBlocks) → has_owner h.owner hs ≡ true → P h → Q h) → AllByRecursion P hs → AllByRecursion Q hs
+pub all-owned : (P Q : HeldBlocks → Type 0) (hs : List HeldBlocks) → ((h : HeldBlocks) → has_owner h.owner hs ≡ true → P h → Q h) → AllByRecursion P hs → AllByRecursion Q hs
 all-owned P Q [] f p = tt
 all-owned P Q (x ∷ hs) f p = (
   f x (or_left (x.owner == x.owner) (has_owner x.owner hs) (eq-eqb x.owner x.owner refl)) p.0,
   all-owned P Q hs (λ h q r. f h (or_right (x.owner == h.owner) (has_owner h.owner hs) q) r) p.1,
 )
 
-all-kept : (P Q : HeldBlocks → Type 0) (passing : HeldBlocks → Bool) (hs : List HeldBlocks) → ((h : HeldBlocks) → passing h ≡ true → P h → Q h) → AllByRecursion P hs →
+pub all-kept : (P Q : HeldBlocks → Type 0) (passing : HeldBlocks → Bool) (hs : List HeldBlocks) → ((h : HeldBlocks) → passing h ≡ true → P h → Q h) → AllByRecursion P hs →
     AllByRecursion Q (filter passing hs)
 all-kept P Q passing [] f p = tt
 all-kept P Q passing (x ∷ hs) f p = choose (passing x) refl (all-kept P Q passing hs f p.1)
@@ -76,7 +76,7 @@ all-kept P Q passing (x ∷ hs) f p = choose (passing x) refl (all-kept P Q pass
     choose true q rest = (f x q p.0, rest)
     choose false q rest = rest
 
-all-joined : (Q : HeldBlocks → Type 0) (hs : List HeldBlocks) (x : HeldBlocks) → AllByRecursion Q hs → Q x → AllByRecursion Q (hs ++ x ∷ [])
+pub all-joined : (Q : HeldBlocks → Type 0) (hs : List HeldBlocks) (x : HeldBlocks) → AllByRecursion Q hs → Q x → AllByRecursion Q (hs ++ x ∷ [])
 all-joined Q [] x p q = (q, tt)
 all-joined Q (h ∷ hs) x p q = (p.0, all-joined Q hs x p.1 q)
 
@@ -332,11 +332,11 @@ length-padded [] b h = refl
 length-padded (x ∷ a) [] h = absurd (omega arith)
 length-padded (x ∷ a) (y ∷ b) h = ap suc (length-padded a b (omega arith))
 
-delta-length : (medium bytes : List ℕ) (at : ℕ) → length (xor (slice medium at (length bytes)) bytes) ≡ length bytes
+pub delta-length : (medium bytes : List ℕ) (at : ℕ) → length (xor (slice medium at (length bytes)) bytes) ≡ length bytes
 delta-length medium bytes at = length-padded (slice medium at (length bytes)) bytes (omega (arith, length-take (length bytes) (drop at medium)))
 
 -- a take finds what it takes
-taken-source : (s : Setting) (i c : ℕ) (past : List Entry) → Grows s past → some_at (i + 1) (is_act Takes c) past ≡ true → has_source i c past ≡ true
+pub taken-source : (s : Setting) (i c : ℕ) (past : List Entry) → Grows s past → some_at (i + 1) (is_act Takes c) past ≡ true → has_source i c past ≡ true
 taken-source s i c [] g h = absurd (false≢true h)
 taken-source s i c (e ∷ past) g h = elim (some_at-cases (i + 1) (is_act Takes c) e past h) [
   | inl here ↦ newest (taken-bytes s past e.stamp i c e.event (may-here s past e.stamp e.lock i e.event here.0 g.0.1.1) here.1)
@@ -406,7 +406,7 @@ new-held s i c e past event act opened task sources row len cdb bytes q here g m
       | inr none ↦ none
     ]
 
-new-distinct : (s : Setting) (i c : ℕ) (past : List Entry) (stamp : ℕ) (event : Event) → Grows s past → MayTarget s past stamp i event →
+pub new-distinct : (s : Setting) (i c : ℕ) (past : List Entry) (stamp : ℕ) (event : Event) → Grows s past → MayTarget s past stamp i event →
     (is_act Diffs c event || is_act Holds c event) ≡ true → has_owner c (held s i past) ≡ false
 new-distinct s i c past stamp event g m source = elim (cases_Bool (has_owner c (held s i past))) [
   | inl owned ↦ absurd (source-once s past stamp i c event g m (owner-source s i c past g owned) source)

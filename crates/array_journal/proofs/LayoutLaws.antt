@@ -1,16 +1,16 @@
 -- Where the blocks of a task stand: among the sectors, and on the rows of its stripe.
 use Rattle.std.proofs.Common.{◌≡◌, ℕ, ◌+◌, ◌-◌, ◌*◌, ◌%◌, ◌<◌, ◌≤◌, ◌⊎◌, inl, inr, cond, ap, sym, ◌∙◌, subst, arith}
 use Rattle.std.specs.Prelude.{◌≢◌, nat_lt}
-use Rattle.std.proofs.Math.Nat.{add-mul, mul_assoc, mul_comm}
+use Rattle.std.proofs.Math.Nat.{add-mul, mul_assoc, mul_comm, mul-le-mul_right}
 use Rattle.std.proofs.lemmas.Nat.{mul-le, mul-add-lt, mod-mul-add, mod_below, same_from_place}
 use Rattle.std.proofs.lemmas.Bool.{cases_lt, cases_eq, cases_order, lt-ltb, le-ltb}
 use Rattle.stripe_layout.specs.Layout.{parity_of, capacity_of, rows_of, lba_at}
 use Rattle.array_journal.specs.declared.setting.Setting.{Setting}
 use Rattle.array_journal.specs.declared.task.Task.{Task}
+use Rattle.array_journal.specs.Acts.{task_bytes}
 use Rattle.array_journal.specs.Host.{unit_at, task_lba}
 use Rattle.array_journal.specs.May.{IsTask}
 use Rattle.array_journal.specs.Run.{IsSetting, IsRowOf}
-use Rattle.array_journal.proofs.TaskPlaces.{rows-fit, lba-fit}
 
 -- a place lies before a run of places, or after it
 abbrev pub IsBeside : ℕ → ℕ → ℕ → Type 0
@@ -110,33 +110,47 @@ lba_at-below s stripe unit r set h k =
 abbrev pub task_unit : Task → ℕ
 task_unit task = unit_at task.parity task.target
 
--- what the rows of a task of reading or updating are
+-- which is one of the array's
+unit-below : (s : Setting) (task : Task) → IsTask s task → task.target ≢ task.parity → task_unit task < s.geometry.targets - 1
+unit-below s task sound other = unit_at-below task.parity task.target s.geometry.targets other sound.target (omega (arith, sound.parity, sound.target))
+
+-- the first row of a task, by its place in the unit
+first-row : (s : Setting) (task : Task) → IsTask s task → task.stripe * s.geometry.unit + task.row % s.geometry.unit ≡ task.row
+first-row s task sound = row_in_unit s.geometry.unit task.stripe task.row sound.from_stripe (omega (arith, sound.to_stripe, sound.some_rows))
+
+-- its rows end in the unit
+rows-in_unit : (s : Setting) (task : Task) → IsTask s task → task.row % s.geometry.unit + task.count ≤ s.geometry.unit
+rows-in_unit s task sound = omega (arith, first-row s task sound, sound.to_stripe, add-mul task.stripe 1 s.geometry.unit)
+
+-- and its blocks among those of the array
+lba-fit : (s : Setting) (task : Task) → IsTask s task → task.target ≢ task.parity → task_lba s.geometry task + task.count ≤ capacity_of s.geometry
+lba-fit s task sound other = omega (arith, last, sound.some_rows)
+  where
+    last : (task.stripe * (s.geometry.targets - 1) + task_unit task) * s.geometry.unit + (task.row % s.geometry.unit + (task.count - 1)) < capacity_of s.geometry
+    last =
+        lba_below (s.geometry.targets - 1) s.geometry.unit s.geometry.stripes task.stripe (task_unit task) (task.row % s.geometry.unit + (task.count - 1)) sound.in_array
+        (unit-below s task sound other) (omega (arith, rows-in_unit s task sound, sound.some_rows))
+
+-- so are its bytes among those of the sectors
+pub lba-fit_bytes : (s : Setting) (task : Task) → IsTask s task → task.target ≢ task.parity →
+    task_lba s.geometry task * s.geometry.block + task_bytes s task ≤ capacity_of s.geometry * s.geometry.block
+lba-fit_bytes s task sound other =
+    let part : (task_lba s.geometry task + task.count) * s.geometry.block ≤ capacity_of s.geometry * s.geometry.block =
+    mul-le-mul_right s.geometry.block (lba-fit s task sound other) in
+    omega (arith, add-mul (task_lba s.geometry task) task.count s.geometry.block)
+
+-- where the rows of a task of reading or updating are
 pub record IsPlaced (s : Setting) (task : Task) : Type 0 where
-  pub not_parity : task.target ≢ task.parity
   pub unit_below : task_unit task < s.geometry.targets - 1
   pub first_row : task.stripe * s.geometry.unit + task.row % s.geometry.unit ≡ task.row
   pub in_unit : task.row % s.geometry.unit + task.count ≤ s.geometry.unit
-  pub row_end : task.row + task.count ≤ rows_of s.geometry
-  pub lba_end : task_lba s.geometry task + task.count ≤ capacity_of s.geometry
 
-pub IsPlaced-task : (s : Setting) (task : Task) → IsSetting s → IsTask s task → task.target ≢ task.parity → IsPlaced s task
-IsPlaced-task s task set sound other = record {
-  not_parity = other;
-  unit_below = unit_at-below task.parity task.target s.geometry.targets other sound.target parity;
-  first_row = first;
-  in_unit = inside;
-  row_end = rows-fit s task sound;
-  lba_end = lba-fit s task sound other;
+pub IsPlaced-task : (s : Setting) (task : Task) → IsTask s task → task.target ≢ task.parity → IsPlaced s task
+IsPlaced-task s task sound other = record {
+  unit_below = unit-below s task sound other;
+  first_row = first-row s task sound;
+  in_unit = rows-in_unit s task sound;
 }
-  where
-    parity : task.parity < s.geometry.targets
-    parity = subst (λ p. p < s.geometry.targets) (sym sound.parity) (parity_of-below s task.stripe set)
-
-    first : task.stripe * s.geometry.unit + task.row % s.geometry.unit ≡ task.row
-    first = row_in_unit s.geometry.unit task.stripe task.row sound.from_stripe (omega (arith, sound.to_stripe, sound.some_rows))
-
-    inside : task.row % s.geometry.unit + task.count ≤ s.geometry.unit
-    inside = omega (arith, first, sound.to_stripe, add-mul task.stripe 1 s.geometry.unit)
 
 -- a row that a task covers is of its stripe
 pub covered-stripe : (s : Setting) (task : Task) (stripe r : ℕ) → IsTask s task → IsRowOf s.geometry stripe r →
@@ -193,3 +207,20 @@ lba_at-other_row s task stripe unit r set placed at below beside = by_case (case
     by_case (inl same) (inr differ) _ = lba_at-other_unit s task stripe unit r set placed below (λ e k. differ k)
     by_case (inl same) (inl also) (inl before) = inl (subst (λ q. q + r % s.geometry.unit < task_lba s.geometry task) (sym (start same also)) (omega (arith, placed.first_row, row same)))
     by_case (inl same) (inl also) (inr after) = inr (subst (λ q. task_lba s.geometry task + task.count ≤ q + r % s.geometry.unit) (sym (start same also)) (omega (arith, placed.first_row, row same)))
+
+-- a row is one of the task's, or beside them
+pub data Falls (task : Task) (r : ℕ) : Type 0 where
+  Within : (j : ℕ) → j < task.count → r ≡ task.row + j → Falls task r
+  Beside : IsBeside task.row task.count r → Falls task r
+
+pub row_falls : (task : Task) (r : ℕ) → Falls task r
+row_falls task r = by_order (cases_lt r task.row) (cases_lt r (task.row + task.count))
+  where
+    by_order : (r < task.row) ⊎ (task.row ≤ r) → (r < task.row + task.count) ⊎ (task.row + task.count ≤ r) → Falls task r
+    by_order (inl before) _ = Beside (inl before)
+    by_order (inr _) (inr after) = Beside (inr after)
+    by_order (inr from) (inl to) = Within (r - task.row) (omega arith) (omega arith)
+
+-- rows of a task are rows of its stripe
+pub task_row : (s : Setting) (task : Task) (j : ℕ) → IsTask s task → j < task.count → IsRowOf s.geometry task.stripe (task.row + j)
+task_row s task j sound h = record { in_array = sound.in_array; first = omega (arith, sound.from_stripe); last = omega (arith, sound.to_stripe) }

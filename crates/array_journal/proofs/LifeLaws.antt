@@ -246,19 +246,6 @@ swapped-gone s i past g h =
     let v : note_count i past ≡ swap_count i past + unfitted_count i past = notes-swaps s i past g in
     unmended-gone s i past g (omega arith)
 
--- the book never has more than one note more than there were fresh disks
-pub notes-le_fresh : (s : Setting) (i : ℕ) (past : List Entry) → Grows s past → note_count i past ≤ suc (life_of i past)
-notes-le_fresh s i past g = elim (cases_lt (suc (life_of i past)) (note_count i past)) [
-  | inl more ↦ let r : (suc (life_of i past) < life_of i past) ⊎ ((suc (life_of i past) ≤ life_of i past) × (is_gone i past ≡ true)) =
-      loss-life s i (suc (life_of i past)) past g (noted-loss s i (suc (life_of i past)) past g more) in
-      absurd (never r)
-  | inr within ↦ within
-]
-  where
-    never : (suc (life_of i past) < life_of i past) ⊎ ((suc (life_of i past) ≤ life_of i past) × (is_gone i past ≡ true)) → ⊥
-    never (inl less) = omega arith
-    never (inr both) = let b : suc (life_of i past) ≤ life_of i past = both.0 in omega arith
-
 -- a disk that works: each loss was in a life before
 pub working-loss : (s : Setting) (i w : ℕ) (past : List Entry) → Grows s past → is_gone i past ≡ false → some_at (i + 1) (is_loss_from w) past ≡ true →
     w < life_of i past

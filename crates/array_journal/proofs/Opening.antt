@@ -3,7 +3,7 @@ use Rattle.std.specs.Prelude.{◌≡◌, ◌==◌, ◌&&◌, nat_le, not, ℕ, s
 use Rattle.std.proofs.Common.{refl, ap, sym, ◌∙◌, cond, arith, subst}
 use Rattle.std.proofs.lemmas.Bool.{eq-eqb, lt-leb, and_from, or_left}
 use Rattle.std.proofs.lemmas.List.{length-replicate}
-use Rattle.stripe_layout.specs.Layout.{parity_of, rows_of, capacity_of}
+use Rattle.stripe_layout.specs.Layout.{parity_of, rows_of}
 use Rattle.array_journal.specs.declared.entry.Entry.{Entry}
 use Rattle.array_journal.specs.declared.event.Event.{Event}
 use Rattle.array_journal.specs.declared.event.Event.TheVariants.{Open}
@@ -32,9 +32,7 @@ quiet-none s = record {
   stamped = tt;
   none_open = λ c. refl;
   none_held = λ i. refl;
-  all_folded = tt;
   media_size = λ i. length-replicate (rows_of s.geometry * s.geometry.block) 0;
-  sectors_size = length-replicate (capacity_of s.geometry * s.geometry.block) 0;
 }
 
 -- the journal with a command opened

@@ -28,9 +28,6 @@ own_step owner e past f g there other = by_case (carries owner e.event) there ot
     by_case true h k = h refl
     by_case false h k = k refl
 
-or_same : (a b c d : Bool) → a ≡ c → b ≡ d → (a || b) ≡ (c || d)
-or_same a b c d h k = ap (λ x. x || b) h ∙ ap (λ x. c || x) k
-
 -- an event that an owner doesn't carry passes none of its tests
 fails : (b : Bool) → (b ≡ true → false ≡ true) → b ≡ false
 fails true h = sym (h refl)

@@ -1,6 +1,6 @@
 -- A read over a quiet journal: its entries go on the run, and leave it quiet.
-use Rattle.std.specs.Prelude.{◌≡◌, ◌==◌, ℕ, suc, ◌+◌, ◌*◌, true, false, List, [], ◌∷◌, ◌++◌, Option, Some, length}
-use Rattle.std.proofs.Common.{refl, ap, sym, ◌∙◌, cond, arith, subst, inl, inr}
+use Rattle.std.specs.Prelude.{◌≡◌, ◌==◌, ℕ, suc, ◌+◌, ◌*◌, true, false, List, [], ◌∷◌, Some, length}
+use Rattle.std.proofs.Common.{refl, ap, sym, ◌∙◌, arith, subst, inl, inr}
 use Rattle.std.proofs.lemmas.Bool.{eq-eqb, ne_eqb, cases_eq, or_left}
 use Rattle.sbc_cdbs.specs.declared.descriptor.Cdb.{Cdb}
 use Rattle.sbc_cdbs.specs.Cdbs.{Spells, cdb_bytes}
@@ -17,13 +17,12 @@ use Rattle.array_journal.specs.Media.{media, held, rows_on}
 use Rattle.array_journal.specs.Decision.{has_room, has_room_at, holder_of}
 use Rattle.array_journal.specs.Lists.{slice}
 use Rattle.array_journal.specs.May.{May, MayFetch, IsTask, NamesActs, AllNamed, closed_bytes}
-use Rattle.array_journal.specs.Run.{Grows, NoneOpen, sectors}
-use Rattle.array_journal.specs.Host.{host, plain, told_by, read_item, is_read, is_degraded_read}
+use Rattle.array_journal.specs.Run.{Grows, NoneOpen}
 use Rattle.array_journal.specs.Serving.{next_name, open_entry, opened_name, fetch_entry, close_read_entry, read_entries}
 use Rattle.array_journal.specs.Calm.{Quiet}
 use Rattle.array_journal.proofs.Steps.{entry_at-here, media-else, media-quiet, held-quiet, is_open-quiet, is_open-ended, task_of-quiet, count_at-quiet}
 use Rattle.array_journal.proofs.CalmEntries.{AllCalm}
-use Rattle.array_journal.proofs.CalmCommands.{stamps_below-calm, calm-no_fetches, folded-more}
+use Rattle.array_journal.proofs.CalmCommands.{stamps_below-calm, calm-no_fetches}
 use Rattle.array_journal.proofs.TaskPlaces.{length-slice, rows-fit_bytes}
 use Rattle.array_journal.proofs.ActSteps.{calm-next, stamp_lt, act-calm, may-target, has-there, all_named-none, all_named-one, named-here, own-fetches, names-own}
 use Rattle.array_journal.proofs.Opening.{opened_past, opened-calm, opened-stands, opened-once, opened-task, opened-open, opened-grows, read-decided}
@@ -182,25 +181,6 @@ read-held s past task fetch i =
     held-quiet s i (close_read_entry past task) (fetched_past s past task fetch) (λ m old. refl)
     ∙ held-quiet s i (fetch_entry s past task fetch) (opened_past past task) (λ m old. refl) ∙ held-quiet s i (open_entry past task) past (λ m old. refl)
 
--- the hosts were told what stood on the rows
-pub read-host : (s : Setting) (past : List Entry) (task : Task) (fetch : Cdb) → task.kind ≡ Read →
-    host s.geometry (read_entries s past task fetch)
-    ≡ read_item s.geometry task (rows_on s task.target past task.row (task_bytes s task)) ∷ host s.geometry past
-read-host s past task fetch kind =
-    ap (λ (o : Option Task). told_by s.geometry (close_read_entry past task).event o ++ host s.geometry (fetched_past s past task fetch)) tasked
-    ∙ ap (λ (k : Kind). cond (is_degraded_read k) (read_item s.geometry task [] ∷ []) [] ++ host s.geometry (fetched_past s past task fetch)) kind
-    ∙ ap (λ (o : Option Task). told_by s.geometry (fetch_entry s past task fetch).event o ++ host s.geometry past) (opened-task past task)
-    ∙ ap (λ (k : Kind). cond (is_read k) (read_item s.geometry task (rows_on s task.target past task.row (task_bytes s task)) ∷ []) []
-    ++ host s.geometry past) kind
-  where
-    tasked : task_of (open_count past) (fetched_past s past task fetch) ≡ Some task
-    tasked = task_of-quiet (open_count past) (fetch_entry s past task fetch) (opened_past past task) refl ∙ opened-task past task
-
--- the sectors stay
-pub read-sectors : (s : Setting) (past : List Entry) (task : Task) (fetch : Cdb) → task.kind ≡ Read →
-    sectors s.geometry (read_entries s past task fetch) ≡ sectors s.geometry past
-read-sectors s past task fetch kind = ap (plain s.geometry) (read-host s past task fetch kind)
-
 -- the journal is quiet again
 pub read-quiet : (s : Setting) (past : List Entry) (task : Task) (fetch : Cdb) → Quiet s past → task.kind ≡ Read → Quiet s (read_entries s past task fetch)
 read-quiet s past task fetch q kind = record {
@@ -208,17 +188,5 @@ read-quiet s past task fetch q kind = record {
   stamped = (omega arith, (omega arith, (omega arith, q.stamped)));
   none_open = read-none_open s past task fetch q.none_open;
   none_held = λ i. read-held s past task fetch i ∙ q.none_held i;
-  all_folded = (
-    tt,
-    (
-      tt,
-      (
-        tt,
-        folded-more (close_read_entry past task) (fetched_past s past task fetch) past
-            (folded-more (fetch_entry s past task fetch) (opened_past past task) past (folded-more (open_entry past task) past past q.all_folded)),
-      ),
-    ),
-  );
   media_size = λ i. ap length (read-media s past task fetch i) ∙ q.media_size i;
-  sectors_size = ap length (read-sectors s past task fetch kind) ∙ q.sectors_size;
 }

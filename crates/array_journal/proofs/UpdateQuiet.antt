@@ -1,35 +1,30 @@
 -- A supervised update over a quiet journal leaves it quiet.
-use Rattle.std.specs.Prelude.{◌≡◌, ◌==◌, ℕ, suc, ◌+◌, ◌*◌, true, false, List, [], ◌∷◌, ◌++◌, Option, length}
-use Rattle.std.specs.List.{AllByRecursion}
-use Rattle.std.proofs.Common.{refl, ap, sym, ◌∙◌, cond, arith, subst, inl, inr}
+use Rattle.std.specs.Prelude.{◌≡◌, ◌==◌, ℕ, suc, ◌+◌, ◌*◌, false, List, [], ◌∷◌, length}
+use Rattle.std.proofs.Common.{refl, ap, sym, ◌∙◌, arith, subst, inl, inr}
 use Rattle.std.proofs.lemmas.Bool.{eq-eqb, ne_eqb, cases_eq, or_left}
 use Rattle.blocks_core.specs.Xor.{xor}
 use Rattle.blocks_core.proofs.XorLaws.{length-xor}
 use Rattle.sbc_cdbs.specs.declared.descriptor.Cdb.{Cdb}
-use Rattle.stripe_layout.specs.Layout.{rows_of, capacity_of}
+use Rattle.stripe_layout.specs.Layout.{rows_of}
 use Rattle.array_journal.specs.declared.entry.Entry.{Entry}
 use Rattle.array_journal.specs.declared.setting.Setting.{Setting}
-use Rattle.array_journal.specs.declared.task.Kind.{Kind}
 use Rattle.array_journal.specs.declared.task.Kind.TheVariants.{Update}
 use Rattle.array_journal.specs.declared.task.Task.{Task}
 use Rattle.array_journal.specs.Lists.{slice, put}
 use Rattle.array_journal.specs.Entries.{some_at}
 use Rattle.array_journal.specs.Commands.{opens, ends_command, open_count}
-use Rattle.array_journal.specs.Acts.{Folds, is_third_party, task_bytes}
+use Rattle.array_journal.specs.Acts.{is_third_party, task_bytes}
 use Rattle.array_journal.specs.Media.{media, medium_after, held, take_rows, HeldBlocks}
-use Rattle.array_journal.specs.Deltas.{has_acted}
-use Rattle.array_journal.specs.Host.{host, plain, told_by, read_item, wrote_item, task_lba, is_degraded_read}
 use Rattle.array_journal.specs.May.{IsTask}
-use Rattle.array_journal.specs.Run.{NoneOpen, sectors}
+use Rattle.array_journal.specs.Run.{NoneOpen}
 use Rattle.array_journal.specs.Serving.{open_entry, diff_entry, update_delta, take_entry, fold_entry, close_update_entry, update_entries}
-use Rattle.array_journal.specs.Calm.{Quiet, IsFolded}
+use Rattle.array_journal.specs.Calm.{Quiet}
 use Rattle.array_journal.proofs.Steps.{chosen_length, media-quiet, held-here, held-else, held-quiet, is_open-quiet, is_open-ended, count_at-quiet}
 use Rattle.array_journal.proofs.CalmEntries.{AllCalm}
-use Rattle.array_journal.proofs.CalmCommands.{folded-more}
-use Rattle.array_journal.proofs.TaskPlaces.{length-slice, length-put, rows-fit_bytes, lba-fit_bytes, take_rows-own}
+use Rattle.array_journal.proofs.TaskPlaces.{length-slice, length-put, rows-fit_bytes, take_rows-own}
 use Rattle.array_journal.proofs.ActSteps.{calm-next}
-use Rattle.array_journal.proofs.Opening.{opened_past, opened-task}
-use Rattle.array_journal.proofs.UpdateRuns.{CanUpdate, update-task, length-update_delta, diffed_past, taken_past, folded_past, folded-calm, folded-task, held-diffed}
+use Rattle.array_journal.proofs.Opening.{opened_past}
+use Rattle.array_journal.proofs.UpdateRuns.{CanUpdate, update-task, length-update_delta, diffed_past, taken_past, folded_past, folded-calm, held-diffed}
 
 pub update-count : (s : Setting) (past : List Entry) (task : Task) (diff take fold : Cdb) →
     open_count (update_entries s past task diff take fold) ≡ suc (open_count past)
@@ -76,35 +71,6 @@ update-none_held s past task diff take fold q i =
     at_target = held-here s task.target (take_entry s past task take) (diffed_past past task diff) refl
         ∙ ap (λ (h : List HeldBlocks). take_rows s.geometry.block task.row (length (update_delta s past task)) h) (held-diffed s past task diff q)
         ∙ take_rows-own s.geometry.block (open_count past) task.row (update_delta s past task)
-
--- the update's delta was folded
-pub update-folded : (s : Setting) (past : List Entry) (task : Task) (diff take fold : Cdb) →
-    has_acted Folds (open_count past) (update_entries s past task diff take fold) ≡ true
-update-folded s past task diff take fold =
-    ap (λ b. cond b true (has_acted Folds (open_count past) (taken_past s past task diff take))) (eq-eqb (open_count past) (open_count past) refl)
-
-pub update-all_folded : (s : Setting) (past : List Entry) (task : Task) (diff take fold : Cdb) → Quiet s past →
-    AllByRecursion (λ (e : Entry). IsFolded (update_entries s past task diff take fold) e.event) (update_entries s past task diff take fold)
-update-all_folded s past task diff take fold q = (
-  tt,
-  (
-    tt,
-    (
-      tt,
-      (
-        update-folded s past task diff take fold,
-        (
-          tt,
-          folded-more (close_update_entry past task) (folded_past s past task diff take fold) past
-              (folded-more (fold_entry s past task fold) (taken_past s past task diff take) past
-              (folded-more (take_entry s past task take) (diffed_past past task diff) past
-              (folded-more (diff_entry past task diff) (opened_past past task) past
-              (folded-more (open_entry past task) past past q.all_folded)))),
-        ),
-      ),
-    ),
-  ),
-)
 
 -- an entry that keeps the medium's length
 length-media : (s : Setting) (i : ℕ) (e : Entry) (past : List Entry) →
@@ -155,29 +121,6 @@ update-media_size s past task diff take fold u i =
     size : length old ≡ rows_of s.geometry * s.geometry.block
     size = length-media-taken s past task diff take u i
 
--- the hosts were told of the write
-pub update-host : (s : Setting) (past : List Entry) (task : Task) (diff take fold : Cdb) → task.kind ≡ Update →
-    host s.geometry (update_entries s past task diff take fold) ≡ wrote_item s.geometry task ∷ host s.geometry past
-update-host s past task diff take fold kind =
-    ap (λ (o : Option Task). told_by s.geometry (close_update_entry past task).event o ++ host s.geometry (folded_past s past task diff take fold))
-    (folded-task s past task diff take fold)
-    ∙ ap (λ (k : Kind). cond (is_degraded_read k) (read_item s.geometry task [] ∷ []) [] ++ host s.geometry (folded_past s past task diff take fold)) kind
-    ∙ ap (λ (o : Option Task). told_by s.geometry (diff_entry past task diff).event o ++ host s.geometry past) (opened-task past task)
-
--- the sectors are those before with the task's bytes put over its blocks
-pub update-sectors : (s : Setting) (past : List Entry) (task : Task) (diff take fold : Cdb) → task.kind ≡ Update →
-    sectors s.geometry (update_entries s past task diff take fold)
-    ≡ put (sectors s.geometry past) (task_lba s.geometry task * s.geometry.block) task.bytes
-update-sectors s past task diff take fold kind = ap (plain s.geometry) (update-host s past task diff take fold kind)
-
-pub update-sectors_size : (s : Setting) (past : List Entry) (task : Task) (diff take fold : Cdb) → CanUpdate s past task →
-    length (sectors s.geometry (update_entries s past task diff take fold)) ≡ capacity_of s.geometry * s.geometry.block
-update-sectors_size s past task diff take fold u =
-    ap length (update-sectors s past task diff take fold u.kind)
-    ∙ length-put (sectors s.geometry past) (task_lba s.geometry task * s.geometry.block) task.bytes
-    (omega (arith, u.quiet.sectors_size, (update-task s past task u).1, lba-fit_bytes s task u.sound (update-task s past task u).0))
-    ∙ u.quiet.sectors_size
-
 -- the journal is quiet again
 pub update-quiet : (s : Setting) (past : List Entry) (task : Task) (diff take fold : Cdb) → is_third_party s.mode ≡ false →
     Quiet s past → IsTask s task → task.kind ≡ Update → Quiet s (update_entries s past task diff take fold)
@@ -186,9 +129,7 @@ update-quiet s past task diff take fold supervised q sound kind = record {
   stamped = (omega arith, (omega arith, (omega arith, (omega arith, (omega arith, q.stamped)))));
   none_open = update-none_open s past task diff take fold q.none_open;
   none_held = update-none_held s past task diff take fold q;
-  all_folded = update-all_folded s past task diff take fold q;
   media_size = update-media_size s past task diff take fold u;
-  sectors_size = update-sectors_size s past task diff take fold u;
 }
   where
     u : CanUpdate s past task

@@ -1,16 +1,24 @@
 -- Entries that are wrong in one place may not follow.
-use Rattle.std.specs.Prelude.{◌≡◌, ◌==◌, ℕ, ◌*◌, Bool, true, false, List, [], ◌∷◌, length, Some}
+use Rattle.std.specs.Prelude.{◌≡◌, ◌&&◌, nat_lt, nat_le, ℕ, ◌+◌, Bool, true, false, length, if◌then◌else◌}
 use Rattle.std.proofs.Common.{refl, ap, sym, ◌∙◌, subst}
-use Rattle.sbc_cdbs.specs.declared.descriptor.Cdb.{Cdb}
 use Rattle.array_journal.specs.declared.at.At.{At}
+use Rattle.array_journal.specs.declared.event.Event.TheVariants.{Put}
+use Rattle.array_journal.specs.declared.event.Why.TheVariants.{Medium, NotReady}
+use Rattle.array_journal.specs.declared.task.Kind.{Kind}
+use Rattle.array_journal.specs.declared.task.Kind.TheVariants.{Update, DataOnly, DegradedWrite}
 use Rattle.array_journal.specs.declared.task.Task.{Task}
-use Rattle.array_journal.specs.Acts.{task_bytes}
-use Rattle.array_journal.specs.Lists.{slice}
+use Rattle.array_journal.specs.Acts.{Puts, acts_at, is_third_party, task_bytes}
+use Rattle.array_journal.specs.Decision.{Opens, Refuses, decision, want_of, missing_count}
+use Rattle.array_journal.specs.Listed.{is_listed}
+use Rattle.array_journal.specs.Lives.{is_missing}
+use Rattle.stripe_layout.specs.Layout.{parity_of}
 use Rattle.array_journal.specs.Media.{rows_on}
 use Rattle.array_journal.specs.Entries.{entry_at}
 use Rattle.array_journal.specs.May.{IsFoldSource}
-use Rattle.array_journal.specs.Tried.{small, at, block, write_task, read_task}
-use Rattle.array_journal.specs.Wrong.{taken_out, reading, FoldsTheTaken, OneDiff, UpdatesApart, FetchesWhatStands, RewriteOwesZeros}
+use Rattle.array_journal.specs.Tried.{small, at, read_task}
+use Rattle.array_journal.specs.Wrong.{taken_out, reading, FoldsTheTaken, OneDiff, UpdatesApart, FetchesWhatStands, RewriteOwesZeros, UpdatesPutNothing, DataAloneWantsParityLost, ShutBarsTheFold}
+use Rattle.array_journal.proofs.Standing.{may-here}
+use Rattle.std.proofs.lemmas.Bool.{and_parts}
 
 pub folds-the_taken : FoldsTheTaken
 folds-the_taken diff take fold stamp bytes (later, (below, (task, (name, may)))) =
@@ -38,3 +46,42 @@ fetches-what_stands diff take fold fetch stamp bytes (later, (below, (task, may)
 
 pub rewrite-owes_zeros : RewriteOwesZeros
 rewrite-owes_zeros diff take fold again out = (refl, refl)
+
+-- no update puts
+puts-none : (third : Bool) (kind : Kind) (task : Task) (i : ℕ) → kind ≡ Update → acts_at third Puts kind task i ≡ true → ⊥
+puts-none third kind task i h k =
+    let none : false ≡ true = subst (λ (x : Kind). acts_at third Puts x task i ≡ true) h k in
+    cc
+
+pub updates-put_nothing : UpdatesPutNothing
+updates-put_nothing s past task stamp i c row opened cdb bytes names opening update (below, m) =
+    let (own, may) = may-here s past stamp (i + 1) i (Put c opened cdb row bytes names) refl m in
+    let same : task ≡ own = cc (opening, may.act.opening.0) in
+    let kind : own.kind ≡ Update = ap (λ (t : Task). t.kind) (sym same) ∙ update in
+    puts-none (is_third_party s.mode) own.kind own i kind
+    (and_parts (nat_lt i s.geometry.targets) (acts_at (is_third_party s.mode) Puts own.kind own i) may.act.of_task).1
+
+-- of the ways in which a write is served, data alone is that of a missing parity unit
+data_alone-lost : (listed two gone parity : Bool) →
+    (if listed then Refuses Medium
+    else if two then Refuses NotReady
+    else if gone then Opens DegradedWrite
+    else if parity then Opens DataOnly
+    else Opens Update) ≡ Opens DataOnly → parity ≡ true
+data_alone-lost true two gone parity h = cc
+data_alone-lost false true gone parity h = cc
+data_alone-lost false false true parity h = cc
+data_alone-lost false false false true h = refl
+data_alone-lost false false false false h = cc
+
+pub data_alone-wants_parity_lost : DataAloneWantsParityLost
+data_alone-wants_parity_lost s past task stamp c kind (below, may) =
+    let P : Kind → Type 0 = λ k. decision s (want_of k) task.stripe task.target past ≡ Opens k in
+    let decided : P DataOnly = subst P kind may.decided in
+    data_alone-lost (is_missing task.target task.stripe past && is_listed task.stripe past) (nat_le 2 (missing_count s task.stripe past))
+    (is_missing task.target task.stripe past) (is_missing (parity_of s.geometry task.stripe) task.stripe past) decided
+
+pub shut-bars_the_fold : ShutBarsTheFold
+shut-bars_the_fold diff fold stamp row opened bytes names (below, (inside, (task, (name, may)))) =
+    let shut : true ≡ false = may.act.not_shut in
+    cc

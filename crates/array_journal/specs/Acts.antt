@@ -1,6 +1,5 @@
 -- The acts of commands: which command acts at which target, how, and by which CDB (SBC, the XOR commands).
-use Rattle.std.specs.Prelude.{◌≡◌, ◌==◌, ◌&&◌, ◌||◌, nat_lt, not, ℕ, ◌+◌, ◌*◌, Bool, true, false, List, [], ◌∷◌, filter, if◌then◌else◌}
-use Rattle.stripe_layout.specs.declared.geometry.Geometry.{Geometry}
+use Rattle.std.specs.Prelude.{◌==◌, ◌&&◌, ◌||◌, nat_lt, not, ℕ, ◌+◌, ◌*◌, Bool, true, false, List, filter, if◌then◌else◌}
 use Rattle.stripe_layout.specs.declared.mode.Mode.{Mode}
 use Rattle.stripe_layout.specs.declared.mode.Mode.TheVariants.{Supervised, ThirdParty}
 use Rattle.sbc_cdbs.specs.declared.commands.Command.{Command}

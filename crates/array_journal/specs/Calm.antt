@@ -1,17 +1,14 @@
 -- Calm journals: those of reads and supervised updates alone, each of them ended, in an array that loses nothing.
-use Rattle.std.specs.Prelude.{◌≡◌, ◌<◌, ◌≤◌, ◌*◌, ℕ, suc, Bool, true, false, List, [], ◌∷◌, length}
+use Rattle.std.specs.Prelude.{◌≡◌, ◌<◌, ◌≤◌, ◌*◌, ℕ, suc, true, false, List, [], ◌∷◌, length}
 use Rattle.std.specs.List.{AllByRecursion}
-use Rattle.stripe_layout.specs.Layout.{rows_of, capacity_of}
+use Rattle.stripe_layout.specs.Layout.{rows_of}
 use Rattle.array_journal.specs.declared.entry.Entry.{Entry}
 use Rattle.array_journal.specs.declared.event.Event.{Event}
 use Rattle.array_journal.specs.declared.event.Event.TheVariants.{Fetch, Diff, Take, Fold, Open, Close}
 use Rattle.array_journal.specs.declared.setting.Setting.{Setting}
 use Rattle.array_journal.specs.Commands.{open_count}
-use Rattle.array_journal.specs.Acts.{Folds}
 use Rattle.array_journal.specs.Media.{media, held}
-use Rattle.array_journal.specs.Deltas.{has_acted}
-use Rattle.array_journal.specs.Host.{host, Legal}
-use Rattle.array_journal.specs.Run.{Grows, Conserved, NoneOpen, sectors}
+use Rattle.array_journal.specs.Run.{Grows, NoneOpen}
 
 -- an event of a read or of a supervised update whose command is one of the first c
 abbrev pub IsCalmEvent : ℕ → Event → Type 0
@@ -33,29 +30,15 @@ abbrev pub IsStamped : List Entry → Type 0
 IsStamped [] = Unit {0}
 IsStamped (e ∷ past) = (e.stamp ≡ suc (length past)) × IsStamped past
 
--- a diff's delta was folded in the whole journal
-abbrev pub IsFolded : List Entry → Event → Type 0
-IsFolded whole (Diff command opened cdb row bytes sent dropped) = has_acted Folds command whole ≡ true
-IsFolded whole _ = Unit {0}
-
--- what a journal of whole reads and updates leaves: nothing open, held or still to fold
+-- what a journal of whole reads and updates leaves: nothing open or held
 pub record Quiet (s : Setting) (past : List Entry) : Type 0 where
   pub entries : AllByRecursion (IsCalmEntry (length past) (open_count past)) past
   pub stamped : IsStamped past
   pub none_open : NoneOpen past
   pub none_held : (i : ℕ) → held s i past ≡ []
-  pub all_folded : AllByRecursion (λ (e : Entry). IsFolded past e.event) past
   pub media_size : (i : ℕ) → length (media s i past) ≡ rows_of s.geometry * s.geometry.block
-  pub sectors_size : length (sectors s.geometry past) ≡ capacity_of s.geometry * s.geometry.block
 
--- it holds after each entry, and before the first
-abbrev pub Throughout : (List Entry → Type 0) → List Entry → Type 0
-Throughout P [] = P []
-Throughout P (e ∷ past) = P (e ∷ past) × Throughout P past
-
--- a calm journal: a run that conserves all along, whose reads are right
+-- a calm journal: a run that leaves all quiet
 pub record Calm (s : Setting) (past : List Entry) : Type 0 where
   pub quiet : Quiet s past
   pub grows : Grows s past
-  pub conserved : Throughout (Conserved s) past
-  pub legal : Legal s.geometry (host s.geometry past)

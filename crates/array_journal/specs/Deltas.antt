@@ -1,15 +1,15 @@
 -- Deltas: what a write changed, and which of these parity doesn't have yet.
-use Rattle.std.specs.Prelude.{◌≡◌, ◌==◌, ◌&&◌, nat_lt, nat_le, not, ℕ, ◌+◌, ◌-◌, ◌*◌, ◌/◌, Bool, true, false, List, [], ◌∷◌, length, Option, Some, None, if◌then◌else◌}
+use Rattle.std.specs.Prelude.{◌==◌, ◌&&◌, nat_lt, nat_le, not, ℕ, ◌+◌, ◌-◌, ◌/◌, Bool, true, false, List, [], ◌∷◌, length, Option, Some, None, if◌then◌else◌}
 use Rattle.blocks_core.specs.Xor.{xor}
 use Rattle.stripe_layout.specs.Layout.{parity_of}
 use Rattle.array_journal.specs.declared.at.At.{At}
 use Rattle.array_journal.specs.declared.entry.Entry.{Entry}
 use Rattle.array_journal.specs.declared.event.Event.{Event}
-use Rattle.array_journal.specs.declared.event.Event.TheVariants.{Put, Diff, Fold}
+use Rattle.array_journal.specs.declared.event.Event.TheVariants.{Put, Diff}
 use Rattle.array_journal.specs.declared.setting.Setting.{Setting}
-use Rattle.array_journal.specs.Lists.{slice, block_at}
+use Rattle.array_journal.specs.Lists.{block_at}
 use Rattle.array_journal.specs.Entries.{name_of, same_at}
-use Rattle.array_journal.specs.Media.{media, rows_on}
+use Rattle.array_journal.specs.Media.{rows_on}
 use Rattle.array_journal.specs.Acts.{Act, Folds, is_act}
 
 -- the delta of bytes written to target i from a row on, over the entries before: what stood there, exclusive-or

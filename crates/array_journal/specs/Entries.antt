@@ -1,5 +1,5 @@
 -- Entries and their names. A list of entries called past has the newest entry first.
-use Rattle.std.specs.Prelude.{◌≡◌, ◌==◌, ◌&&◌, ◌||◌, ◌<◌, ◌⊎◌, nat_lt, not, ℕ, Bool, true, false, List, [], ◌∷◌, Option, Some, None, suc, if◌then◌else◌}
+use Rattle.std.specs.Prelude.{◌==◌, ◌&&◌, ◌||◌, nat_lt, not, ℕ, Bool, true, false, List, [], ◌∷◌, Option, Some, None, suc, if◌then◌else◌}
 use Rattle.array_journal.specs.declared.at.At.{At}
 use Rattle.array_journal.specs.declared.entry.Entry.{Entry}
 use Rattle.array_journal.specs.declared.event.Event.{Event}

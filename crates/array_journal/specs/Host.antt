@@ -1,6 +1,6 @@
 -- What hosts were told: reads, writes and refusals in their order, and the one plain list of sectors that they
 -- speak of.
-use Rattle.std.specs.Prelude.{◌≡◌, ◌==◌, ◌&&◌, nat_lt, ℕ, ◌+◌, ◌-◌, ◌*◌, Bool, true, false, List, [], ◌∷◌, ◌++◌, length, Option, Some, None, if◌then◌else◌}
+use Rattle.std.specs.Prelude.{◌≡◌, nat_lt, ℕ, ◌-◌, ◌*◌, Bool, true, false, List, [], ◌∷◌, ◌++◌, length, Option, Some, None, if◌then◌else◌}
 use Rattle.blocks_core.specs.Xor.{zeros}
 use Rattle.stripe_layout.specs.declared.geometry.Geometry.{Geometry}
 use Rattle.stripe_layout.specs.Layout.{capacity_of, lba_at}
@@ -8,9 +8,8 @@ use Rattle.array_journal.specs.declared.entry.Entry.{Entry}
 use Rattle.array_journal.specs.declared.event.Event.{Event}
 use Rattle.array_journal.specs.declared.event.Event.TheVariants.{Fetch, Put, Diff, Close, Refuse}
 use Rattle.array_journal.specs.declared.event.Why.{Why}
-use Rattle.array_journal.specs.declared.setting.Setting.{Setting}
 use Rattle.array_journal.specs.declared.task.Kind.{Kind}
-use Rattle.array_journal.specs.declared.task.Kind.TheVariants.{Read, Update, DataOnly, DegradedRead, DegradedWrite, Rebuild, Resync}
+use Rattle.array_journal.specs.declared.task.Kind.TheVariants.{Read, DataOnly, DegradedRead, DegradedWrite}
 use Rattle.array_journal.specs.declared.task.Task.{Task}
 use Rattle.array_journal.specs.Lists.{slice, put}
 use Rattle.array_journal.specs.Commands.{task_of}

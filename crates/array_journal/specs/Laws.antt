@@ -16,7 +16,7 @@ use Rattle.array_journal.specs.Lives.{is_fresh, is_note_of, is_swap_of, is_unfit
 use Rattle.array_journal.specs.Listed.{listed_for}
 use Rattle.array_journal.specs.Deltas.{covers}
 use Rattle.array_journal.specs.May.{May, passes, is_loss_in, discards}
-use Rattle.array_journal.specs.Run.{ComesLater, Grows, Run, IsSetting}
+use Rattle.array_journal.specs.Run.{ComesLater, Grows, Run, IsSetting, ConservedThroughout, IsLegal}
 
 -- how many times the book noted that the disk of slot i was lost
 abbrev pub note_count : ℕ → List Entry → ℕ
@@ -210,3 +210,11 @@ BookLaneLaw = (i stripe c : ℕ) (past : List Entry) → BookLane i stripe c pas
 -- an entry that is named is read from those of its name's lock
 abbrev pub NamedLaneLaw : Type 0
 NamedLaneLaw = (name : At) (past : List Entry) → entry_at name past ≡ entry_at name (lane name.lock past)
+
+-- nothing is lost, after any entry of any run
+abbrev pub ConservedLaw : Type 0
+ConservedLaw = (s : Setting) (journal : List Entry) → IsSetting s → Run s journal → ConservedThroughout s journal
+
+-- and what hosts read is what one plain list of sectors says
+abbrev pub LegalLaw : Type 0
+LegalLaw = (s : Setting) (journal : List Entry) → IsSetting s → Run s journal → IsLegal s journal

@@ -1,5 +1,5 @@
 -- Bytes on a medium, as lists.
-use Rattle.std.specs.Prelude.{◌≡◌, ◌+◌, ◌*◌, ℕ, zero, suc, List, [], ◌∷◌, ◌++◌, length, take, drop, reverse}
+use Rattle.std.specs.Prelude.{◌+◌, ◌*◌, ℕ, zero, suc, List, [], ◌∷◌, ◌++◌, length, take, drop}
 
 -- so many bytes from a place on
 abbrev pub slice : List ℕ → ℕ → ℕ → List ℕ

@@ -1,9 +1,9 @@
 -- Which entry may follow a journal. Each condition is about earlier entries of the entry's own lock, or about an
 -- entry that it names; past has the newest entry first.
 use Rattle.std.specs.List.{list_any}
-use Rattle.std.specs.Prelude.{◌≡◌, ◌==◌, ◌&&◌, ◌||◌, ◌<◌, ◌≤◌, ◌⊎◌, nat_lt, nat_le, not, ℕ, zero, suc, ◌+◌, ◌*◌, ◌≢◌, Bool, true, false, List, [], ◌∷◌, length, map, filter, Option, Some, None, if◌then◌else◌, IsTrue}
+use Rattle.std.specs.Prelude.{◌≡◌, ◌==◌, ◌&&◌, ◌||◌, ◌<◌, ◌≤◌, ◌⊎◌, nat_lt, nat_le, ℕ, zero, suc, ◌+◌, ◌*◌, ◌≢◌, Bool, true, false, List, [], ◌∷◌, length, map, Option, Some, None, if◌then◌else◌}
 use Rattle.blocks_core.specs.Xor.{xor, xor_all}
-use Rattle.stripe_layout.specs.Layout.{parity_of, rows_of}
+use Rattle.stripe_layout.specs.Layout.{parity_of}
 use Rattle.sbc_cdbs.specs.declared.descriptor.Cdb.{Cdb}
 use Rattle.sbc_cdbs.specs.Cdbs.{Spells, cdb_bytes}
 use Rattle.array_journal.specs.declared.at.At.{At}
@@ -16,12 +16,11 @@ use Rattle.array_journal.specs.declared.setting.Setting.{Setting}
 use Rattle.array_journal.specs.declared.task.Kind.{Kind}
 use Rattle.array_journal.specs.declared.task.Kind.TheVariants.{Read, Update, DataOnly, DegradedRead, DegradedWrite, Rebuild, Resync}
 use Rattle.array_journal.specs.declared.task.Task.{Task}
-use Rattle.array_journal.specs.Lists.{numbers}
-use Rattle.array_journal.specs.Entries.{name_of, same_at, at_lt, entry_at, some_at, count_before, stamps_below}
-use Rattle.array_journal.specs.Commands.{open_count, is_open, task_of, opens_command}
-use Rattle.array_journal.specs.Acts.{Act, Fetches, Puts, Diffs, Takes, Folds, Holds, has_act, is_target, targets_that, is_third_party, task_bytes, cdb_of, is_act, shuts_command, changes_medium, is_degraded_write}
+use Rattle.array_journal.specs.Entries.{at_lt, entry_at, some_at, count_before, stamps_below}
+use Rattle.array_journal.specs.Commands.{open_count, is_open, task_of}
+use Rattle.array_journal.specs.Acts.{Act, Fetches, Puts, Diffs, Takes, Folds, Holds, has_act, is_target, targets_that, is_third_party, task_bytes, cdb_of, is_act, shuts_command, changes_medium}
 use Rattle.array_journal.specs.Media.{rows_on, held, rows_held, drops, owners_of}
-use Rattle.array_journal.specs.Lives.{is_gone, loss_of, life_of, swap_count, is_swap_of, is_noted, is_unfitted}
+use Rattle.array_journal.specs.Lives.{is_gone, loss_of, life_of, swap_count, is_swap_of, is_unfitted}
 use Rattle.array_journal.specs.Deltas.{delta_at}
 use Rattle.array_journal.specs.Decision.{want_of, Opens, decision, opens_conflict, has_room}
 

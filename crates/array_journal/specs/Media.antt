@@ -1,11 +1,10 @@
 -- What stands on the media and in the buffers of the targets.
-use Rattle.std.specs.Prelude.{◌≡◌, ◌==◌, ◌&&◌, nat_lt, nat_le, not, ℕ, suc, ◌+◌, ◌-◌, ◌*◌, ◌/◌, Bool, true, false, List, [], ◌∷◌, ◌++◌, length, take, drop, filter, Option, Some, None, if◌then◌else◌}
+use Rattle.std.specs.Prelude.{◌==◌, ◌&&◌, nat_lt, nat_le, not, ℕ, suc, ◌+◌, ◌-◌, ◌*◌, ◌/◌, Bool, true, false, List, [], ◌∷◌, ◌++◌, length, take, drop, filter, Option, Some, None, if◌then◌else◌}
 use Rattle.blocks_core.specs.Xor.{xor, zeros}
 use Rattle.stripe_layout.specs.Layout.{rows_of}
 use Rattle.array_journal.specs.declared.entry.Entry.{Entry}
 use Rattle.array_journal.specs.declared.event.Event.{Event}
 use Rattle.array_journal.specs.declared.event.Event.TheVariants.{Put, Diff, Take, Fold, Hold, Shut, Gone, Wiped, Fresh}
-use Rattle.array_journal.specs.declared.event.What.{What}
 use Rattle.array_journal.specs.declared.event.What.TheVariants.{Buffers, Request}
 use Rattle.array_journal.specs.declared.setting.Setting.{Setting}
 use Rattle.array_journal.specs.Lists.{slice, put}

@@ -1,9 +1,9 @@
 -- Runs of the array, and what holds of them.
-use Rattle.std.specs.Prelude.{◌≡◌, ◌<◌, ◌≤◌, ◌+◌, ◌-◌, ◌*◌, ℕ, Bool, true, false, List, [], ◌∷◌, ◌++◌, length, map, reverse, take, Option, Some, None}
+use Rattle.std.specs.Prelude.{◌≡◌, ◌<◌, ◌≤◌, ◌+◌, ◌-◌, ◌*◌, ℕ, true, false, List, [], ◌∷◌, map, reverse, take, None}
 use Rattle.std.specs.List.{AllByRecursion}
 use Rattle.blocks_core.specs.Xor.{xor_all}
 use Rattle.stripe_layout.specs.declared.geometry.Geometry.{Geometry}
-use Rattle.stripe_layout.specs.Layout.{IsArray, parity_of, lba_at, target_of_unit, rows_of}
+use Rattle.stripe_layout.specs.Layout.{IsArray, parity_of, lba_at, target_of_unit}
 use Rattle.array_journal.specs.declared.entry.Entry.{Entry}
 use Rattle.array_journal.specs.declared.setting.Setting.{Setting}
 use Rattle.array_journal.specs.Lists.{block_at, numbers}

@@ -1,7 +1,7 @@
 -- The entries by which a controller serves a piece when nothing stands in the way and nothing fails: those of a
 -- read, and those of a supervised update. Each list has the newest entry first. The stamp of an entry is its place
 -- in the journal, from 1.
-use Rattle.std.specs.Prelude.{ℕ, ◌+◌, Bool, true, false, List, [], ◌∷◌, length, None}
+use Rattle.std.specs.Prelude.{ℕ, ◌+◌, true, false, List, [], ◌∷◌, length, None}
 use Rattle.sbc_cdbs.specs.declared.descriptor.Cdb.{Cdb}
 use Rattle.array_journal.specs.declared.at.At.{At}
 use Rattle.array_journal.specs.declared.entry.Entry.{Entry}

@@ -1,13 +1,18 @@
 -- Journals that are wrong in one place, and what an update owes. The newest entry comes first.
-use Rattle.std.specs.Prelude.{◌≡◌, ◌++◌, ℕ, true, false, List, [], ◌∷◌, None}
+use Rattle.std.specs.Prelude.{◌≡◌, ◌+◌, ℕ, true, false, List, [], ◌∷◌, Some, None}
+use Rattle.stripe_layout.specs.Layout.{parity_of}
 use Rattle.sbc_cdbs.specs.declared.descriptor.Cdb.{Cdb}
+use Rattle.array_journal.specs.declared.at.At.{At}
 use Rattle.array_journal.specs.declared.entry.Entry.{Entry}
-use Rattle.array_journal.specs.declared.event.Event.TheVariants.{Fetch, Diff, Take, Fold, Open, Close}
-use Rattle.array_journal.specs.declared.task.Kind.TheVariants.{Update}
+use Rattle.array_journal.specs.declared.event.Event.TheVariants.{Fetch, Put, Diff, Take, Fold, Open, Close}
+use Rattle.array_journal.specs.declared.task.Kind.TheVariants.{Update, DataOnly}
+use Rattle.array_journal.specs.declared.setting.Setting.{Setting}
 use Rattle.array_journal.specs.declared.task.Task.{Task}
 use Rattle.array_journal.specs.Deltas.{outstanding}
+use Rattle.array_journal.specs.Entries.{entry_at}
+use Rattle.array_journal.specs.Lives.{is_missing}
 use Rattle.array_journal.specs.May.{May}
-use Rattle.array_journal.specs.Tried.{small, at, entry, task_on, block, blank, write_task, written, read_task}
+use Rattle.array_journal.specs.Tried.{small, tiny, at, entry, task_on, block, blank, write_task, written, read_task, spoilt}
 
 -- an update up to its diff, and up to its take
 abbrev pub differed : Cdb → List Entry
@@ -63,3 +68,22 @@ RewriteOwesZeros =
     (diff take fold again out : Cdb) →
     (outstanding small (rewritten diff take fold again) 0 0 ≡ record { command = 1; block = blank } ∷ [])
     × (outstanding small (rewritten_taken diff take fold again out) 0 0 ≡ record { command = 1; block = blank } ∷ [])
+
+-- An update puts nothing: parity isn't computed by the controller and written beside the data. In any setting, after
+-- any entries.
+abbrev pub UpdatesPutNothing : Type 0
+UpdatesPutNothing =
+    (s : Setting) (past : List Entry) (task : Task) (stamp i c row : ℕ) (opened : At) (cdb : Cdb) (bytes : List ℕ) (names : List At)
+    → entry_at opened past ≡ Some (Open c task) → task.kind ≡ Update → May s past (entry stamp (i + 1) (Put c opened cdb row bytes names)) → ⊥
+
+-- And data is written without parity only where the parity unit is missing.
+abbrev pub DataAloneWantsParityLost : Type 0
+DataAloneWantsParityLost =
+    (s : Setting) (past : List Entry) (task : Task) (stamp c : ℕ)
+    → task.kind ≡ DataOnly → May s past (entry stamp 0 (Open c task)) → is_missing (parity_of s.geometry task.stripe) task.stripe past ≡ true
+
+-- An update that was given up and shut at parity folds nothing there, whatever it names.
+abbrev pub ShutBarsTheFold : Type 0
+ShutBarsTheFold =
+    (diff fold : Cdb) (stamp row : ℕ) (opened : At) (bytes : List ℕ) (names : List At)
+    → May tiny (spoilt diff) (entry stamp 3 (Fold 0 opened fold row bytes names)) → ⊥

@@ -1,7 +1,7 @@
 //! Laws of every run of the array, in every setting: of losses, resets, dropped requests, replacements
 //! and rebuilds in any order. Each is the contract of a function that does nothing.
 
-ghost use Rattle.array_journal.specs.Laws.{LivesLaw, FreshLaw, MendedLaw, UnfittedLaw, AloneLaw, UndisturbedLaw, NoActAfterEndLaw, OneEndLaw, AbsentLaw, PresentLaw, OwnersLaw, HeldApartLaw, DeltaHeldLaw, BeginningsLaw, ByNamesLaw, TargetLaneLaw, BookLaneLaw, NamedLaneLaw};
+ghost use Rattle.array_journal.specs.Laws.{LivesLaw, FreshLaw, MendedLaw, UnfittedLaw, AloneLaw, UndisturbedLaw, NoActAfterEndLaw, OneEndLaw, AbsentLaw, PresentLaw, OwnersLaw, HeldApartLaw, DeltaHeldLaw, BeginningsLaw, ByNamesLaw, TargetLaneLaw, BookLaneLaw, NamedLaneLaw, ConservedLaw, LegalLaw};
 
 /// The disks of a slot come one after the other: a loss is noted, the slot is swapped, a fresh disk
 /// comes for the swap, and until then the target is gone, holds nothing and is acted on by no command.
@@ -55,4 +55,16 @@ pub fn locks_are_read_apart()
     ensures target { TargetLaneLaw }
     ensures book { BookLaneLaw }
     ensures named { NamedLaneLaw }
+{}
+
+/// After any entry of any run no block is lost: on each row of a stripe that isn't listed and whose
+/// parity unit isn't absent, data and parity together are the deltas still to be folded, each of an
+/// open command; and each data unit that isn't absent stands on its medium as the hosts know it.
+pub fn nothing_is_lost()
+    ensures conserved { ConservedLaw }
+{}
+
+/// What hosts read is what one plain list of sectors says of the writes that they were told before.
+pub fn reads_are_right()
+    ensures legal { LegalLaw }
 {}

@@ -1,7 +1,7 @@
 //! The definitions tried: two journals that are runs, and entries that may not follow. Each is a law of
 //! constants.
 ghost use Rattle.array_journal.specs.Tried.{WriteAndReadRuns, LossMeetsAReadRuns, UnfoldedStaysOpen, UpdateBarsDegradedRead, BesideUpdateRuns, UnputStaysOpen, RebuildingRuns, OldCommandsBarred, ParityReplacedRuns, ListedUnitsUnread, SpoiltRuns, TwoLostUnread, TwoLostRuns};
-ghost use Rattle.array_journal.specs.Wrong.{FoldsTheTaken, OneDiff, UpdatesApart, FetchesWhatStands, RewriteOwesZeros};
+ghost use Rattle.array_journal.specs.Wrong.{FoldsTheTaken, OneDiff, UpdatesApart, FetchesWhatStands, RewriteOwesZeros, UpdatesPutNothing, DataAloneWantsParityLost, ShutBarsTheFold};
 ghost use Rattle.array_journal.specs.Examples.{PutAloneRuns, DeltaWipedRuns, RebuiltRuns, GatheredRuns, RefusedRuns};
 
 /// A block written by an update and read back is a run.
@@ -81,4 +81,16 @@ pub fn conflicting_write_barred()
 /// A block that is written over by the same bytes owes a delta of zeros until it is folded.
 pub fn rewrite_owes_zeros()
     ensures { RewriteOwesZeros }
+{}
+
+/// A controller doesn't write data and parity by two puts: an update puts nothing, and data is put alone
+/// only where its stripe's parity unit is missing.
+pub fn two_puts_for_a_write_barred()
+    ensures update { UpdatesPutNothing }
+    ensures alone { DataAloneWantsParityLost }
+{}
+
+/// An update that was given up doesn't fold into parity where it was shut.
+pub fn fold_after_a_shut_barred()
+    ensures { ShutBarsTheFold }
 {}

@@ -1,0 +1,5 @@
+use Rattle.array_journal.proofs.KeptRuns.{conserved_law}
+use Rattle.array_journal.proofs.laws.nothing_is_lost.Goals as goal
+
+pub returns : goal.returns
+returns c = record { conserved = conserved_law }

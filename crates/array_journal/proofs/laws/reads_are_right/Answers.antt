@@ -1,0 +1,5 @@
+use Rattle.array_journal.proofs.ReadsRight.{legal_law}
+use Rattle.array_journal.proofs.laws.reads_are_right.Goals as goal
+
+pub returns : goal.returns
+returns c = record { legal = legal_law }
