@@ -1,21 +1,25 @@
 -- Reading pairs of digits, and call lines, one after the other, as a loop does.
-use Rattle.std.proofs.Common.{◌≡◌, ℕ, zero, suc, ◌-◌, ◌+◌, ◌≤◌, ◌<◌, ◌==◌, Bool, true, false, List, [], ◌∷◌, ◌++◌, length, get_or, take, drop, Option, Some, None, refl, sym, ap, ◌∙◌, append_assoc, length-append, arith}
+use Rattle.std.proofs.Common.{◌≡◌, ℕ, zero, suc, ◌-◌, ◌+◌, ◌≤◌, ◌<◌, ◌==◌, Bool, true, false, List, [], ◌∷◌, ◌++◌, length, get_or, take, drop, Option, Some, None, Result, Ok, Err, refl, sym, ap, ◌∙◌, append_assoc, length-append, arith}
 use Rattle.std.proofs.lemmas.Bool.Decides.{nat_tests}
 use Rattle.std.proofs.lemmas.List.{append-nil, take_all}
+use Rattle.stripe_layout.specs.declared.geometry.Geometry.{Geometry}
 use Rattle.host_scripts.specs.declared.script.Call.{Call}
-use Rattle.std.proofs.lemmas.Option.{some_pair_parts}
 use Rattle.host_scripts.specs.declared.script.ScriptFault.{ScriptFault}
 use Rattle.host_scripts.specs.declared.script.ScriptFault.TheVariants as faults
-use Rattle.host_scripts.specs.Reading.{◌>>=◌, Fails, byte_of, hex_at, cut_at, call_of, call_at, calls_at}
-use Rattle.host_scripts.proofs.Parts.{bind-some, cut-takes}
+use Rattle.host_scripts.specs.Words.{byte_of, hex_at, cut_at}
+use Rattle.host_scripts.specs.Words as words
+use Rattle.host_scripts.specs.Loose.{call_of}
+use Rattle.host_scripts.specs.Reading.{◌>>=◌, Fault, Fails, ended, judged, next_at, line_at, is_ranged_call, is_sized_call, call_at, calls_at}
+use Rattle.host_scripts.proofs.Parts.{cut-takes}
 
 -- what was read before, and what is still read
 abbrev pub with_front : {A : Type 0} → List A → Option (List A) → Option (List A)
-with_front front read = read >>= λ more. Some (front ++ more)
+with_front front None = None
+with_front front (Some more) = Some (front ++ more)
 
-regroup : {A : Type 0} (front : List A) (x : A) (read : Option (List A)) → with_front front (read >>= λ more. Some (x ∷ more)) ≡ with_front (front ++ x ∷ []) read
-regroup front x (Some more) = ap (λ xs. Some xs) (simp append_assoc)
-regroup front x None = refl
+pair-regroup : (front : List ℕ) (x : ℕ) (read : Option (List ℕ)) → with_front front (words.◌>>=◌ read (λ more. Some (x ∷ more))) ≡ with_front (front ++ x ∷ []) read
+pair-regroup front x (Some more) = ap (λ (xs : List ℕ). Some xs) (simp append_assoc)
+pair-regroup front x None = refl
 
 -- what a test for emptiness says
 pub is-empty : (n : ℕ) (b : Bool) → b ≡ (n == 0) → b ≡ true → n ≡ 0
@@ -35,7 +39,7 @@ unfolding hex_at
 pair-read front [] byte total long h so_far = let no : ⊥ = omega arith in absurd no
 pair-read front (d ∷ []) byte total long h so_far = let no : ⊥ = omega arith in absurd no
 pair-read front (high ∷ low ∷ more) byte total long h so_far =
-    let one : with_front front (hex_at (high ∷ low ∷ more)) ≡ with_front (front ++ byte ∷ []) (hex_at more) = rw h (regroup front byte (hex_at more)) in
+    let one : with_front front (hex_at (high ∷ low ∷ more)) ≡ with_front (front ++ byte ∷ []) (hex_at more) = rw h (pair-regroup front byte (hex_at more)) in
     rw (pair-behind high low more) (sym one ∙ so_far)
 
 pub pair-broken : (front rest : List ℕ) (total : Option (List ℕ)) → 2 ≤ length rest → byte_of (get_or rest 0 0) (get_or rest 1 0) ≡ None
@@ -60,58 +64,78 @@ pairs-odd front (d ∷ c ∷ rest) total e f so_far = let no : ⊥ = omega arith
 
 -- ---- call lines
 
--- a line is never read without its end, so the bytes grow less
-abbrev pub Shortens : List ℕ → Type 0
-Shortens bytes = (call : Call) (after : List ℕ) → call_at bytes ≡ Some (call, after) → length after < length bytes
+-- the calls that were read before, and those that are still read
+abbrev pub with_calls : List Call → Result (List Call) Fault → Result (List Call) Fault
+with_calls front (Ok more) = Ok (front ++ more)
+with_calls front (Err e) = Err e
 
-same-calls : (n m most : ℕ) (read : Option (Call × List ℕ)) → ((call : Call) (after : List ℕ) → read ≡ Some (call, after) → length after ≤ most)
-    → ((after : List ℕ) → length after ≤ most → calls_at n after ≡ calls_at m after)
-    → (read >>= λ first. calls_at n first.1 >>= λ others. Some (first.0 ∷ others)) ≡ (read >>= λ first. calls_at m first.1 >>= λ others. Some (first.0 ∷ others))
-same-calls n m most None h same = refl
-same-calls n m most (Some first) h same = ap (λ (cs : Option (List Call)). cs >>= λ others. Some (first.0 ∷ others)) (same first.1 (h first.0 first.1 refl))
+call-regroup : (front : List Call) (x : Call) (read : Result (List Call) Fault) → with_calls front (read >>= λ more. Ok (x ∷ more)) ≡ with_calls (front ++ x ∷ []) read
+call-regroup front x (Ok more) = let e : front ++ (x ∷ more) ≡ (front ++ x ∷ []) ++ more = simp append_assoc in rw e refl
+call-regroup front x (Err e) = refl
+
+pub same-ok : {X : Type 0} (x y : X) → ◌≡◌ {A = Result X Fault} (Ok x) (Ok y) → x ≡ y
+same-ok x y e = cc
+
+-- the value of a step that did not fail
+pub bind-ok : {A B : Type 0} (r : Result A Fault) (f : A → Result B Fault) (y : B) → (r >>= f) ≡ Ok y → (x : A) × (r ≡ Ok x) × (f x ≡ Ok y)
+bind-ok (Ok x) f y e = (x, refl, e)
+bind-ok (Err e) f y h = absurd cc
+
+ended-ok : (n : ℕ) (o : Option (List ℕ × List ℕ)) (cut : List ℕ × List ℕ) → ended n o ≡ Ok cut → o ≡ Some cut
+ended-ok n (Some c) cut e = ap (λ (x : List ℕ × List ℕ). Some x) (same-ok c cut e)
+ended-ok n None cut e = absurd cc
 
 -- as many lines as there are bytes are enough
-pub calls-enough : ((bytes : List ℕ) → Shortens bytes) → (n m : ℕ) (bytes : List ℕ) → length bytes ≤ n → length bytes ≤ m → calls_at n bytes ≡ calls_at m bytes
-unfolding calls_at
-calls-enough short n m [] le le2 = refl
-calls-enough short zero m (b ∷ bytes) le le2 = let no : ⊥ = omega arith in absurd no
-calls-enough short (suc n) zero (b ∷ bytes) le le2 = let no : ⊥ = omega arith in absurd no
-calls-enough short (suc n) (suc m) (b ∷ bytes) le le2 =
-    same-calls n m (length bytes) (call_at (b ∷ bytes)) (λ call after e. let lt = short (b ∷ bytes) call after e in omega arith) (λ after le3. calls-enough short n m after (omega arith) (omega arith))
+abbrev pub Shortens : Geometry → ℕ → Type 0
+Shortens g hosts = (n : ℕ) (bytes : List ℕ) (call : Call) (after : List ℕ) → call_at g hosts n bytes ≡ Ok (call, after) → length after < length bytes
+
+same-calls : (g : Geometry) (hosts turns others most n : ℕ) (read : Result (Call × List ℕ) Fault) → ((call : Call) (after : List ℕ) → read ≡ Ok (call, after) → length after ≤ most)
+    → ((after : List ℕ) → length after ≤ most → calls_at g hosts turns n after ≡ calls_at g hosts others n after)
+    → (read >>= λ first. calls_at g hosts turns n first.1 >>= λ rest. Ok (first.0 ∷ rest)) ≡ (read >>= λ first. calls_at g hosts others n first.1 >>= λ rest. Ok (first.0 ∷ rest))
+same-calls g hosts turns others most n (Err e) h same = refl
+same-calls g hosts turns others most n (Ok first) h same = ap (λ (cs : Result (List Call) Fault). cs >>= λ rest. Ok (first.0 ∷ rest)) (same first.1 (h first.0 first.1 refl))
 
 -- what is read of the first line is all but what stands after it
-pub call-shortens : (bytes : List ℕ) → Shortens bytes
-unfolding call_at
-call-shortens bytes call after e =
-    let b = bind-some (cut_at 10 bytes) (λ cut. call_of cut.0 >>= λ call. Some (call, cut.1)) (call, after) e in
-    let d = bind-some (call_of b.0.0) (λ call. Some (call, b.0.1)) (call, after) b.2 in
-    let same : b.0.1 ≡ after = (some_pair_parts d.0 call b.0.1 after d.2).1 in
-    let parts : bytes ≡ b.0.0 ++ 10 ∷ b.0.1 = cut-takes 10 bytes b.0.0 b.0.1 b.1 in
+pub call-shortens : (g : Geometry) (hosts : ℕ) → Shortens g hosts
+unfolding call_at line_at next_at
+call-shortens g hosts n bytes call after e =
+    let tests : Option Call → Result Call Fault = λ o. judged n (is_ranged_call g hosts) (is_sized_call g) o in
+    let b = bind-ok (ended n (cut_at 10 bytes)) (λ cut. tests (call_of cut.0) >>= λ v. Ok (v, cut.1)) (call, after) e in
+    let d = bind-ok (tests (call_of b.0.0)) (λ v. Ok (v, b.0.1)) (call, after) b.2 in
+    let same : b.0.1 ≡ after = ap (λ (p : Call × List ℕ). p.1) (same-ok (d.0, b.0.1) (call, after) d.2) in
+    let parts : bytes ≡ b.0.0 ++ 10 ∷ b.0.1 = cut-takes 10 bytes b.0.0 b.0.1 (ended-ok n (cut_at 10 bytes) b.0 b.1) in
     let len : length bytes ≡ length b.0.0 + suc (length b.0.1) = ap (λ (xs : List ℕ). length xs) parts ∙ length-append b.0.0 (10 ∷ b.0.1) in
     let len2 : length b.0.1 ≡ length after = ap (λ (xs : List ℕ). length xs) same in
     omega (arith, len, len2)
 
-pub call-read : (front : List Call) (bytes : List ℕ) (call : Call) (after : List ℕ) (total : Option (List Call)) → 0 < length bytes → call_at bytes ≡ Some (call, after)
-    → with_front front (calls_at (length bytes) bytes) ≡ total → with_front (front ++ call ∷ []) (calls_at (length after) after) ≡ total
+pub calls-enough : (g : Geometry) (hosts : ℕ) → Shortens g hosts → (turns others n : ℕ) (bytes : List ℕ) → length bytes ≤ turns → length bytes ≤ others → calls_at g hosts turns n bytes ≡ calls_at g hosts others n bytes
 unfolding calls_at
-call-read front [] call after total lt h so_far = let no : ⊥ = omega arith in absurd no
-call-read front (b ∷ bytes) call after total lt h so_far =
-    let shorter = call-shortens (b ∷ bytes) call after h in
-    let enough : calls_at (length after) after ≡ calls_at (length bytes) after = calls-enough call-shortens (length after) (length bytes) after (omega arith) (omega arith) in
-    let one : with_front front (calls_at (length (b ∷ bytes)) (b ∷ bytes)) ≡ with_front (front ++ call ∷ []) (calls_at (length bytes) after) = rw h (regroup front call (calls_at (length bytes) after)) in
+calls-enough g hosts short turns others n [] le le2 = refl
+calls-enough g hosts short zero others n (b ∷ bytes) le le2 = let no : ⊥ = omega arith in absurd no
+calls-enough g hosts short (suc turns) zero n (b ∷ bytes) le le2 = let no : ⊥ = omega arith in absurd no
+calls-enough g hosts short (suc turns) (suc others) n (b ∷ bytes) le le2 =
+    same-calls g hosts turns others (length bytes) (n + 1) (call_at g hosts n (b ∷ bytes)) (λ call after e. let lt = short n (b ∷ bytes) call after e in omega arith) (λ after le3. calls-enough g hosts short turns others (n + 1) after (omega arith) (omega arith))
+
+pub call-read : (g : Geometry) (hosts : ℕ) → Shortens g hosts → (front : List Call) (n : ℕ) (bytes : List ℕ) (call : Call) (after : List ℕ) (total : Result (List Call) Fault) → 0 < length bytes → call_at g hosts n bytes ≡ Ok (call, after)
+    → with_calls front (calls_at g hosts (length bytes) n bytes) ≡ total → with_calls (front ++ call ∷ []) (calls_at g hosts (length after) (n + 1) after) ≡ total
+unfolding calls_at
+call-read g hosts short front n [] call after total lt h so_far = let no : ⊥ = omega arith in absurd no
+call-read g hosts short front n (b ∷ bytes) call after total lt h so_far =
+    let shorter = short n (b ∷ bytes) call after h in
+    let enough : calls_at g hosts (length after) (n + 1) after ≡ calls_at g hosts (length bytes) (n + 1) after = calls-enough g hosts short (length after) (length bytes) (n + 1) after (omega arith) (omega arith) in
+    let one : with_calls front (calls_at g hosts (length (b ∷ bytes)) n (b ∷ bytes)) ≡ with_calls (front ++ call ∷ []) (calls_at g hosts (length bytes) (n + 1) after) = rw h (call-regroup front call (calls_at g hosts (length bytes) (n + 1) after)) in
     rw enough (sym one ∙ so_far)
 
-pub call-broken : (e : ScriptFault) (front : List Call) (bytes : List ℕ) (total : Option (List Call)) → 0 < length bytes → Fails e (call_at bytes)
-    → with_front front (calls_at (length bytes) bytes) ≡ total → Fails e total
+pub call-broken : (g : Geometry) (hosts : ℕ) (e : ScriptFault) (front : List Call) (n : ℕ) (bytes : List ℕ) (total : Result (List Call) Fault) → 0 < length bytes → Fails e (call_at g hosts n bytes)
+    → with_calls front (calls_at g hosts (length bytes) n bytes) ≡ total → Fails e total
 unfolding calls_at
-call-broken faults.Memory front bytes total lt h so_far = tt
-call-broken (faults.Refused n cause) front [] total lt h so_far = let no : ⊥ = omega arith in absurd no
-call-broken (faults.Refused n cause) front (b ∷ bytes) total lt h so_far =
-    let none : call_at (b ∷ bytes) ≡ None = h.2 in
-    let one : with_front front (calls_at (length (b ∷ bytes)) (b ∷ bytes)) ≡ None = rw none refl in
-    (h.0, h.1, sym so_far ∙ one)
+call-broken g hosts faults.Memory front n bytes total lt h so_far = tt
+call-broken g hosts (faults.Refused m cause) front n [] total lt h so_far = let no : ⊥ = omega arith in absurd no
+call-broken g hosts (faults.Refused m cause) front n (b ∷ bytes) total lt h so_far =
+    let one : with_calls front (calls_at g hosts (length (b ∷ bytes)) n (b ∷ bytes)) ≡ Err (m, cause) = rw h refl in
+    sym so_far ∙ one
 
-pub calls-done : (front : List Call) (bytes : List ℕ) (total : Option (List Call)) → length bytes ≡ 0 → with_front front (calls_at (length bytes) bytes) ≡ total → total ≡ Some front
+pub calls-done : (g : Geometry) (hosts : ℕ) (front : List Call) (n : ℕ) (bytes : List ℕ) (total : Result (List Call) Fault) → length bytes ≡ 0 → with_calls front (calls_at g hosts (length bytes) n bytes) ≡ total → total ≡ Ok front
 unfolding calls_at
-calls-done front [] total e so_far = sym so_far ∙ ap (λ (xs : List Call). Some xs) (append-nil front)
-calls-done front (b ∷ bytes) total e so_far = let no : ⊥ = omega arith in absurd no
+calls-done g hosts front n [] total e so_far = sym so_far ∙ ap (λ (xs : List Call). Ok xs) (append-nil front)
+calls-done g hosts front n (b ∷ bytes) total e so_far = let no : ⊥ = omega arith in absurd no

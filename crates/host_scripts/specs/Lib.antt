@@ -1,4 +1,8 @@
 pub mod Scripts
+pub mod Words
+pub mod Loose
 pub mod Reading
 pub mod Heads
-pub mod Firsts
+pub mod Refusals
+pub mod Limits
+pub mod Printed

@@ -1,225 +1,191 @@
--- Reading a script from left to right: what is read from the front, and the bytes after it.
-use Rattle.std.specs.Prelude.{ℕ, ◌≡◌, ◌+◌, ◌-◌, ◌*◌, ◌==◌, ◌&&◌, ◌||◌, nat_lt, nat_le, zero, suc, Bool, false, if◌then◌else◌, List, [], ◌∷◌, length, take, drop, position, min, Option, Some, None, Result, Ok, Err, codes}
-use Rattle.std.specs.Str.{all_ascii_digits, bytes_eq}
-use Rattle.std.specs.Str.Parse.{digits_value}
+-- Reading a script from left to right, line by line: what is read, and the bytes after it, or the first line that is
+-- refused and the first cause in it. A line is read with numbers of any size before its ranges are tested.
+use Rattle.std.specs.Prelude.{ℕ, ◌≡◌, ◌+◌, ◌*◌, ◌%◌, ◌==◌, ◌&&◌, ◌||◌, nat_lt, nat_le, zero, suc, Bool, true, if◌then◌else◌, List, [], ◌∷◌, length, get_or, Option, Some, None, Result, Ok, Err, codes}
+use Rattle.std.specs.List.{list_all}
 use Rattle.stripe_layout.specs.declared.geometry.Geometry.{Geometry}
-use Rattle.stripe_layout.specs.declared.mode.Mode.TheVariants.{Supervised}
+use Rattle.stripe_layout.specs.declared.mode.Mode.{Mode}
 use Rattle.host_scripts.specs.declared.script.Script.{Script}
 use Rattle.host_scripts.specs.declared.script.Call.{Call}
 use Rattle.host_scripts.specs.declared.script.Action.{Action}
-use Rattle.host_scripts.specs.declared.script.Action.TheVariants.{Read, Write}
-use Rattle.host_scripts.specs.declared.script.Cause.TheVariants.{Later}
+use Rattle.host_scripts.specs.declared.script.Action.TheVariants.{Read, Write, Fill, Raw, Lose, Reset, DropNext, Replace, Rebuild, Resync}
+use Rattle.host_scripts.specs.declared.script.Cause.{Cause}
+use Rattle.host_scripts.specs.declared.script.Cause.TheVariants.{Form, Range, Size}
 use Rattle.host_scripts.specs.declared.script.ScriptFault.{ScriptFault}
 use Rattle.host_scripts.specs.declared.script.ScriptFault.TheVariants as faults
-use Rattle.host_scripts.specs.Scripts.{line}
+use Rattle.host_scripts.specs.Words.{cut_at, stripped}
+use Rattle.host_scripts.specs.Loose.{exact_of, number_of, maxima_of, mode_of, order_of, call_of}
+
+-- a line and a cause
+abbrev pub Fault : Type 0
+Fault = ℕ × Cause
 
 -- the second step, where the first gave a value
 infixl 10 ◌>>=◌
-abbrev pub ◌>>=◌ : {A B : Type 0} → Option A → (A → Option B) → Option B
-(Some x) >>= f = f x
-None >>= f = None
+abbrev pub ◌>>=◌ : {A B : Type 0} → Result A Fault → (A → Result B Fault) → Result B Fault
+(Ok x) >>= f = f x
+(Err e) >>= f = Err e
+
+-- a refusal is the one that reading gives, and want of memory says nothing
+abbrev pub Fails : {Y : Type 0} → ScriptFault → Result Y Fault → Type 0
+Fails faults.Memory read = Unit {0}
+Fails (faults.Refused n cause) read = read ≡ Err (n, cause)
 
 -- what a function returned, seen by view, is what reading gives
-abbrev pub Reads : {X Y : Type 0} → (X → Y) → Option X → Option Y → Type 0
-Reads view (Some x) read = read ≡ Some (view x)
-Reads view None read = read ≡ None
-
--- a refusal says that nothing is read, and want of memory nothing
-abbrev pub Fails : {Y : Type 0} → ScriptFault → Option Y → Type 0
-Fails faults.Memory read = Unit {0}
-Fails (faults.Refused n cause) read = (n ≡ 0) × (cause ≡ Later) × (read ≡ None)
-
--- the same of a function that may want memory
-abbrev pub Gives : {X Y : Type 0} → (X → Y) → Result X ScriptFault → Option Y → Type 0
-Gives view (Ok x) read = read ≡ Some (view x)
+abbrev pub Gives : {X Y : Type 0} → (X → Y) → Result X ScriptFault → Result Y Fault → Type 0
+Gives view (Ok x) read = read ≡ Ok (view x)
 Gives view (Err e) read = Fails e read
 
--- the bytes before the first such byte, and those after it
-unfoldable pub cut_at : ℕ → List ℕ → Option (List ℕ × List ℕ)
-cut_at mark bytes = position (λ b. b == mark) bytes >>= λ k. Some (take k bytes, drop 1 (drop k bytes))
+-- what is said in the form of a rule is tested for its ranges, and then for its size
+abbrev pub judged : {V : Type 0} → ℕ → (V → Bool) → (V → Bool) → Option V → Result V Fault
+judged n ranged sized None = Err (n, Form)
+judged n ranged sized (Some v) = if ranged v then (if sized v then Ok v else Err (n, Size)) else Err (n, Range)
 
--- the bytes behind a text
-unfoldable pub stripped : List ℕ → List ℕ → Option (List ℕ)
-stripped text bytes = if bytes_eq (take (length text) bytes) text then Some (drop (length text) bytes) else None
+-- no test
+abbrev pub any : {V : Type 0} → V → Bool
+any v = true
 
--- digits that are `0` or don't begin with it
-abbrev pub is_numeral : List ℕ → Bool
-is_numeral [] = false
-is_numeral (d ∷ ds) = all_ascii_digits (d ∷ ds) && (nat_lt 48 d || length ds == 0)
+-- a line has an end
+abbrev pub ended : {A : Type 0} → ℕ → Option A → Result A Fault
+ended n (Some cut) = Ok cut
+ended n None = Err (n, Form)
 
--- the value of a numeral, or 2 ^ 32 where it is greater
-unfoldable pub numeral_of : List ℕ → Option ℕ
-numeral_of text = if is_numeral text then Some (min (digits_value 10 text) 4294967296) else None
+-- the text of the next line, and the bytes after its end
+unfoldable pub next_at : ℕ → List ℕ → Result (List ℕ × List ℕ) Fault
+next_at n bytes = ended n (cut_at 10 bytes)
 
--- a number that is in range
-unfoldable pub ranged_of : ℕ → ℕ → List ℕ → Option ℕ
-ranged_of least most text = do
-  n ← numeral_of text
-  if nat_le least n && nat_le n most then Some n else None
+-- the next line, by a rule and its tests
+unfoldable pub line_at : {V : Type 0} → ℕ → (V → Bool) → (V → Bool) → (List ℕ → Option V) → List ℕ → Result (V × List ℕ) Fault
+line_at n ranged sized rule bytes = do
+  cut ← next_at n bytes
+  v ← judged n ranged sized (rule cut.0)
+  Ok (v, cut.1)
+
+-- a number between two others
+abbrev pub within : ℕ → ℕ → ℕ → Bool
+within least most n = nat_le least n && nat_le n most
 
 -- a line of a keyword and a number in range
-unfoldable pub number_at : List ℕ → ℕ → ℕ → List ℕ → Option (ℕ × List ℕ)
-number_at keyword least most bytes = do
-  cut ← cut_at 10 bytes
-  text ← stripped keyword cut.0
-  n ← ranged_of least most text
-  Some (n, cut.1)
-
--- the lines of the array's shape
-unfoldable pub geometry_at : List ℕ → Option (Geometry × List ℕ)
-geometry_at bytes = do
-  targets ← number_at (codes "targets ") 3 16 bytes
-  block ← number_at (codes "block ") 1 4096 targets.1
-  unit ← number_at (codes "unit ") 1 4096 block.1
-  stripes ← number_at (codes "stripes ") 1 4096 unit.1
-  Some (record { targets = targets.0; block = block.0; unit = unit.0; stripes = stripes.0 }, stripes.1)
+unfoldable pub number_at : ℕ → List ℕ → ℕ → ℕ → List ℕ → Result (ℕ × List ℕ) Fault
+number_at n keyword least most bytes = line_at n (within least most) any (number_of keyword) bytes
 
 -- no maximum, or one between a unit and 65535 blocks
-unfoldable pub maximum_of : ℕ → List ℕ → Option ℕ
-maximum_of unit text = do
-  n ← ranged_of 0 65535 text
-  if (n == 0) || nat_le unit n then Some n else None
+abbrev pub is_maximum : ℕ → ℕ → Bool
+is_maximum unit n = (n == 0) || within unit 65535 n
 
--- the three maxima of three texts
-unfoldable pub three_of : ℕ → List ℕ → List ℕ → List ℕ → Option (List ℕ)
-three_of unit write regenerate rebuild = do
-  w ← ranged_of 0 65535 write
-  g ← maximum_of unit regenerate
-  r ← maximum_of unit rebuild
-  Some (w ∷ g ∷ r ∷ [])
+-- the three maxima are in range
+abbrev pub are_maxima : ℕ → List ℕ → Bool
+are_maxima unit maxima = nat_le (get_or maxima 0 0) 65535 && is_maximum unit (get_or maxima 1 0) && is_maximum unit (get_or maxima 2 0)
 
--- the three maxima behind their keyword
-unfoldable pub maxima_of : ℕ → List ℕ → Option (List ℕ)
-maxima_of unit text = do
-  all ← stripped (codes "maxima ") text
-  write ← cut_at 32 all
-  regenerate ← cut_at 32 write.1
-  three_of unit write.0 regenerate.0 regenerate.1
-
--- a line of the three maxima
-unfoldable pub maxima_at : ℕ → List ℕ → Option (List ℕ × List ℕ)
-maxima_at unit bytes = do
-  cut ← cut_at 10 bytes
-  maxima ← maxima_of unit cut.0
-  Some (maxima, cut.1)
+-- the lines of the array's shape
+unfoldable pub geometry_at : List ℕ → Result (Geometry × List ℕ) Fault
+geometry_at bytes = do
+  targets ← number_at 2 (codes "targets ") 3 16 bytes
+  block ← number_at 3 (codes "block ") 1 4096 targets.1
+  unit ← number_at 4 (codes "unit ") 1 4096 block.1
+  stripes ← number_at 5 (codes "stripes ") 1 4096 unit.1
+  Ok (record { targets = targets.0; block = block.0; unit = unit.0; stripes = stripes.0 }, stripes.1)
 
 -- what each target starts with: its buffer and its maxima
-unfoldable pub targets_at : ℕ → List ℕ → Option (ℕ × List ℕ × List ℕ)
+unfoldable pub targets_at : ℕ → List ℕ → Result (ℕ × List ℕ × List ℕ) Fault
 targets_at unit bytes = do
-  buffer ← number_at (codes "buffer ") unit 65536 bytes
-  maxima ← maxima_at unit buffer.1
-  Some (buffer.0, maxima.0, maxima.1)
+  buffer ← number_at 6 (codes "buffer ") unit 65536 bytes
+  maxima ← line_at 7 (are_maxima unit) any maxima_of buffer.1
+  Ok (buffer.0, maxima.0, maxima.1)
 
--- how the hosts run: the seed and their number
-unfoldable pub hosts_at : List ℕ → Option (ℕ × ℕ × List ℕ)
+-- how the hosts run: the mode, the seed and their number
+unfoldable pub hosts_at : List ℕ → Result (Mode × ℕ × ℕ × List ℕ) Fault
 hosts_at bytes = do
-  mode ← stripped (line (codes "mode supervised")) bytes
-  seed ← number_at (codes "seed ") 0 4294967295 mode
-  hosts ← number_at (codes "hosts ") 1 26 seed.1
-  Some (seed.0, hosts.0, hosts.1)
+  mode ← line_at 8 any any mode_of bytes
+  seed ← number_at 9 (codes "seed ") 0 4294967295 mode.1
+  hosts ← number_at 10 (codes "hosts ") 1 26 seed.1
+  Ok (mode.0, seed.0, hosts.0, hosts.1)
 
--- the lines before the calls
+-- what the ten lines say that each script begins with
 pub record Head : Type 0 where
   pub geometry : Geometry
   pub buffer : ℕ
   pub maxima : List ℕ
+  pub mode : Mode
   pub seed : ℕ
   pub hosts : ℕ
 
--- all the lines before the calls
-unfoldable pub head_at : List ℕ → Option (Head × List ℕ)
+-- these ten lines
+unfoldable pub head_at : List ℕ → Result (Head × List ℕ) Fault
 head_at bytes = do
-  first ← stripped (line (codes "xorscript 1")) bytes
-  geometry ← geometry_at first
+  first ← line_at {V = ℕ} 1 any any (exact_of (codes "xorscript 1") 1) bytes
+  geometry ← geometry_at first.1
   targets ← targets_at geometry.0.unit geometry.1
   hosts ← hosts_at targets.2
-  Some (record { geometry = geometry.0; buffer = targets.0; maxima = targets.1; seed = hosts.0; hosts = hosts.1 }, hosts.2)
+  Ok (record { geometry = geometry.0; buffer = targets.0; maxima = targets.1; mode = hosts.0; seed = hosts.1; hosts = hosts.2 }, hosts.3)
 
--- the value of one hexadecimal digit, in lower case
-abbrev pub nibble_of : ℕ → Option ℕ
-nibble_of c =
-    if nat_le 48 c && nat_le c 57 then Some (c - 48)
-    else if nat_le 97 c && nat_le c 102 then Some (c - 87)
-    else None
+-- no more than 1000 turns, each of a host
+abbrev pub are_turns : ℕ → List ℕ → Bool
+are_turns hosts turns = nat_le (length turns) 1000 && list_all (λ h. nat_lt h hosts) turns
 
--- the byte of two digits
-unfoldable pub byte_of : ℕ → ℕ → Option ℕ
-byte_of high low = do
-  h ← nibble_of high
-  l ← nibble_of low
-  Some (h * 16 + l)
+-- the line, where it begins so, and else no turns
+abbrev pub where_given : Option (List ℕ) → List ℕ → Result (List ℕ × List ℕ) Fault → Result (List ℕ × List ℕ) Fault
+where_given (Some behind) bytes read = read
+where_given None bytes read = Ok ([], bytes)
 
--- the bytes of pairs of digits
-unfoldable pub hex_at : List ℕ → Option (List ℕ)
-hex_at [] = Some []
-hex_at (digit ∷ []) = None
-hex_at (high ∷ low ∷ rest) = do
-  byte ← byte_of high low
-  bytes ← hex_at rest
-  Some (byte ∷ bytes)
+-- the line of the first turns, where one stands there
+unfoldable pub order_at : ℕ → List ℕ → Result (List ℕ × List ℕ) Fault
+order_at hosts bytes = where_given (stripped (codes "order ") bytes) bytes (line_at 11 (are_turns hosts) any order_of bytes)
 
--- the bytes of a dash or of at least one pair of digits
-unfoldable pub data_of : List ℕ → Option (List ℕ)
-data_of [] = None
-data_of (c ∷ []) = if c == 45 then Some [] else None
-data_of (c ∷ d ∷ rest) = hex_at (c ∷ d ∷ rest)
+-- the numbers of an action are in range
+abbrev pub is_ranged : Geometry → Action → Bool
+is_ranged g (Read lba count) = nat_le lba 4294967295 && nat_le count 65535
+is_ranged g (Write lba bytes) = nat_le lba 4294967295
+is_ranged g (Fill lba count byte) = nat_le lba 4294967295 && nat_le count 65535
+is_ranged g (Raw cdb bytes) = true
+is_ranged g (Lose target) = nat_lt target g.targets
+is_ranged g (Reset target) = nat_lt target g.targets
+is_ranged g (DropNext target) = nat_lt target g.targets
+is_ranged g (Replace target) = nat_lt target g.targets
+is_ranged g (Rebuild target) = nat_lt target g.targets
+is_ranged g Resync = true
 
--- a block's number, a space and what stands behind it
-unfoldable pub addressed_of : List ℕ → Option (ℕ × List ℕ)
-addressed_of text = do
-  cut ← cut_at 32 text
-  lba ← ranged_of 0 4294967295 cut.0
-  Some (lba, cut.1)
+-- the bytes of a write are whole blocks, and no more than 65535
+abbrev pub is_sized : Geometry → Action → Bool
+is_sized g (Read lba count) = true
+is_sized g (Write lba bytes) = (length bytes % g.block == 0) && nat_le (length bytes) (65535 * g.block)
+is_sized g (Fill lba count byte) = true
+is_sized g (Raw cdb bytes) = true
+is_sized g (Lose target) = true
+is_sized g (Reset target) = true
+is_sized g (DropNext target) = true
+is_sized g (Replace target) = true
+is_sized g (Rebuild target) = true
+is_sized g Resync = true
 
--- what stands behind `read `
-unfoldable pub read_of : List ℕ → Option Action
-read_of text = do
-  address ← addressed_of text
-  count ← ranged_of 0 65535 address.1
-  Some (Read address.0 count)
+-- the same of a call of one of so many hosts
+abbrev pub is_ranged_call : Geometry → ℕ → Call → Bool
+is_ranged_call g hosts call = nat_lt call.host hosts && is_ranged g call.action
 
--- what stands behind `write `
-unfoldable pub write_of : List ℕ → Option Action
-write_of text = do
-  address ← addressed_of text
-  bytes ← data_of address.1
-  Some (Write address.0 bytes)
+abbrev pub is_sized_call : Geometry → Call → Bool
+is_sized_call g call = is_sized g call.action
 
--- what f reads of a first text, or else the other
-abbrev pub else_of : {A B : Type 0} → (A → Option B) → Option A → Option B → Option B
-else_of f (Some x) other = f x
-else_of f None other = other
-
--- what a host asks
-unfoldable pub action_of : List ℕ → Option Action
-action_of text = else_of read_of (stripped (codes "read ") text) (stripped (codes "write ") text >>= write_of)
-
--- a host's letter, a space and what it asks
-unfoldable pub call_of : List ℕ → Option Call
-call_of [] = None
-call_of (c ∷ []) = None
-call_of (c ∷ space ∷ text) =
-    if nat_le 65 c && nat_le c 90 && (space == 32) then (action_of text >>= λ a. Some (record { host = c - 65; action = a })) else None
-
--- the call of the first line
-unfoldable pub call_at : List ℕ → Option (Call × List ℕ)
-call_at bytes = do
-  cut ← cut_at 10 bytes
-  call ← call_of cut.0
-  Some (call, cut.1)
+-- the call of the next line
+unfoldable pub call_at : Geometry → ℕ → ℕ → List ℕ → Result (Call × List ℕ) Fault
+call_at g hosts n bytes = line_at n (is_ranged_call g hosts) (is_sized_call g) call_of bytes
 
 -- the calls of at most so many lines, to the last byte
-unfoldable pub calls_at : ℕ → List ℕ → Option (List Call)
-calls_at n [] = Some []
-calls_at zero (b ∷ bytes) = None
-calls_at (suc n) (b ∷ bytes) = do
-  first ← call_at (b ∷ bytes)
-  others ← calls_at n first.1
-  Some (first.0 ∷ others)
+unfoldable pub calls_at : Geometry → ℕ → ℕ → ℕ → List ℕ → Result (List Call) Fault
+calls_at g hosts turns n [] = Ok []
+calls_at g hosts zero n (b ∷ bytes) = Err (n, Form)
+calls_at g hosts (suc turns) n (b ∷ bytes) = do
+  first ← call_at g hosts n (b ∷ bytes)
+  others ← calls_at g hosts turns (n + 1) first.1
+  Ok (first.0 ∷ others)
 
--- a script in which no turns are given
-unfoldable pub script_at : List ℕ → Option Script
+-- the line of the first call
+abbrev pub first_line : List ℕ → ℕ
+first_line [] = 11
+first_line (h ∷ turns) = 12
+
+-- the whole script
+unfoldable pub script_at : List ℕ → Result Script Fault
 script_at bytes = do
   head ← head_at bytes
-  calls ← calls_at (length head.1) head.1
-  Some (record { geometry = head.0.geometry; buffer = head.0.buffer; maxima = head.0.maxima; mode = Supervised; seed = head.0.seed; hosts = head.0.hosts; order = []; calls = calls })
+  order ← order_at head.0.hosts head.1
+  calls ← calls_at head.0.geometry head.0.hosts (length order.1) (first_line order.0) order.1
+  Ok (record { geometry = head.0.geometry; buffer = head.0.buffer; maxima = head.0.maxima; mode = head.0.mode; seed = head.0.seed; hosts = head.0.hosts; order = order.0; calls = calls })

@@ -1,29 +1,41 @@
-ghost use Rattle.std.specs.Prelude.{◌≡◌, ◌<◌, ◌^◌, IfOk, IfErr, MatchResult, length, List, ℕ};
+ghost use Rattle.std.specs.Prelude.{◌≡◌, ◌<◌, ◌≤◌, ◌^◌, IfOk, IfErr, MatchResult, length, List, ℕ};
 ghost use Rattle.host_scripts.specs.declared.script.Script.{Script};
-ghost use Rattle.host_scripts.specs.Scripts.{SpellsFirst, IsRefusal};
-ghost use Rattle.host_scripts.specs.Reading.{Gives, script_at};
+ghost use Rattle.host_scripts.specs.declared.script.Cause.{Cause};
+ghost use Rattle.host_scripts.specs.Scripts.{Spells};
+ghost use Rattle.host_scripts.specs.Refusals.{IsRefusal, Refuses};
+ghost use Rattle.host_scripts.specs.Reading.{Gives, first_line, script_at};
 
-use crate::first::is_first;
 use crate::header::{Header, header_of};
-use crate::lines::{REFUSED, call_lines};
+use crate::lines::{call_lines, order_line};
 use crate::script::{Script, ScriptFault};
 use blocks_core::Bytes;
 use std::alloc::Global;
-use stripe_layout::Mode;
 
-/// The script that the lines say, before what no line alone shows is tested.
+/// The line of the first call, behind the ten lines of the header and that of the first turns.
+fn first_call_line(order: &Bytes) -> u32
+    ensures value { result ≡ first_line order.now }
+    ensures most { result ≤ 12 }
+    ensures turns { 11 < result → 1 ≤ length order.now }
+{
+    if order.is_empty() { 11 } else { 12 }
+}
+
+/// The script of the bytes, or their first fault.
 #[tactic(auto, unfolding(crate::specs::Reading::script_at))]
 fn read_script(alloc: Global, bytes: &[u8]) -> Result<Script, ScriptFault>
-    ensures { Gives (λ s. s) result (script_at bytes.now) }
+    requires { length bytes.now < 2 ^ 32 }
+    ensures value { Gives (λ s. s) result (script_at bytes.now) }
+    ensures fewer { IfOk result (λ s. length s.calls < 2 ^ 32) }
 {
-    let Some((header, rest)) = header_of(bytes) else {
-        return Err(REFUSED);
-    };
-    let calls = call_lines(alloc, rest)?;
+    let (header, rest) = header_of(bytes)?;
+    let (order, rest) = order_line(alloc, header.hosts, rest)?;
+    let first = first_call_line(&order);
+    let calls = call_lines(alloc, &header.geometry, header.hosts, first, rest)?;
     let Header {
         geometry,
         buffer,
         maxima,
+        mode,
         seed,
         hosts,
     } = header;
@@ -31,36 +43,37 @@ fn read_script(alloc: Global, bytes: &[u8]) -> Result<Script, ScriptFault>
         geometry,
         buffer,
         maxima,
-        mode: Mode::Supervised,
+        mode,
         seed,
         hosts,
-        order: Bytes::new(alloc),
+        order,
         calls,
     })
 }
 
-/// The script that the bytes spell, where it can be run so far: it is supervised, has no turns given
-/// and no more than 16 MiB of media, and each call is of host A and one piece within the capacity.
-/// Else the bytes are refused. Takes memory for the calls and their bytes; the time is linear in the
+/// The script that the bytes spell, or else the first line that is refused, and the first cause in it in the order of
+/// `Cause`. A numeral of any length is a number. Takes memory for the calls and their bytes; the time is linear in the
 /// bytes.
 pub fn parse(alloc: Global, bytes: &[u8]) -> Result<Script, ScriptFault>
     requires { length bytes.now < 2 ^ 32 }
     // What is read is spelt so.
-    ensures read { IfOk result (λ s. SpellsFirst bytes.now s) }
+    ensures read { IfOk result (λ s. Spells bytes.now s) }
     // What is spelt so is read, unless memory runs out.
-    ensures spelt { (s : Script) → SpellsFirst bytes.now s → MatchResult result (λ t. t ≡ s) (λ e. e ≡ ScriptFault.Memory) }
-    // Nothing is refused that spells a script.
-    ensures refused { IfErr result (λ e. IsRefusal bytes.now e) }
+    ensures spelt { (s : Script) → Spells bytes.now s → MatchResult result (λ t. t ≡ s) (λ e. e ≡ ScriptFault.Memory) }
+    // What is refused spells no script, and the line is the first that is refused, with its first cause.
+    ensures refused { IfErr result (λ e. Refuses bytes.now e) }
+    // Each call has a line.
+    ensures fewer { IfOk result (λ s. length s.calls < 2 ^ 32) }
 {
-    let script = read_script(alloc, bytes)?;
-    if is_first(&script) {
-        Ok(script)
-    } else {
-        Err(REFUSED)
-    }
+    read_script(alloc, bytes)
 }
 
-/// A script that can be run so far has one spelling, and no other such script has it.
+/// A script has one spelling, and no other script has it.
 pub fn one_spelling()
-    ensures { (a b : Script) (bytes : List ℕ) → SpellsFirst bytes a → SpellsFirst bytes b → a ≡ b }
+    ensures { (a b : Script) (bytes : List ℕ) → Spells bytes a → Spells bytes b → a ≡ b }
+{}
+
+/// Bytes have at most one refusal: one line, and one cause.
+pub fn one_refusal()
+    ensures { (bytes : List ℕ) (m n : ℕ) (c d : Cause) → IsRefusal bytes m c → IsRefusal bytes n d → (m ≡ n) × (c ≡ d) }
 {}

@@ -1,3 +1,5 @@
+ghost use Rattle.std.specs.Prelude.{◌≡◌};
+
 use crate::calls::Calls;
 use blocks_core::{Bytes, Memory};
 use stripe_layout::{Geometry, Mode};
@@ -36,19 +38,54 @@ pub enum Action {
     Read { lba: u32, count: u16 },
     /// WRITE(10) of these bytes, which are whole blocks.
     Write { lba: u32, bytes: Bytes },
+    /// WRITE(10) of so many blocks, each byte of them this one.
+    Fill { lba: u32, count: u16, byte: u8 },
+    /// A command descriptor block of at least one byte, and the bytes sent with it.
+    Raw { cdb: Bytes, bytes: Bytes },
+    /// The operator takes a target's disk away.
+    Lose { target: u8 },
+    /// The operator resets a target.
+    Reset { target: u8 },
+    /// The next request that a target sends to another is dropped.
+    DropNext { target: u8 },
+    /// The operator puts a new disk in.
+    Replace { target: u8 },
+    /// All units of a target's new disk are rebuilt.
+    Rebuild { target: u8 },
+    /// All stripes' parity is made anew.
+    Resync,
 }
 
-/// Why bytes are refused.
+/// Why a line is refused.
 #[derive(Clone, Copy, Debug, PartialEq, Eq)]
 pub enum Cause {
-    /// They aren't a script of the kind that can be run so far.
-    Later,
+    /// No rule that is allowed at its place spells the line, or it has no end.
+    Form,
+    /// A number, a host's letter or a target is outside its range.
+    Range,
+    /// The bytes of a write aren't whole blocks, or are more than 65535 blocks.
+    Size,
+}
+
+/// What a script may have only so much of.
+#[derive(Clone, Copy, Debug, PartialEq, Eq)]
+pub enum Limit {
+    /// Call lines.
+    Calls,
+    /// Blocks that calls read or write.
+    Blocks,
+    /// Bytes of these blocks.
+    Moved,
+    /// Bytes of all targets' media together.
+    Media,
+    /// Calls that go over all stripes.
+    Passes,
 }
 
 /// Why there is no script.
 #[derive(Clone, Copy, Debug, PartialEq, Eq)]
 pub enum ScriptFault {
-    /// The bytes are refused. A line 0 is no line: all of the bytes are.
+    /// The first line that is refused, counted from 1, and the first cause in it.
     Refused { line: u32, cause: Cause },
     /// Want of memory.
     Memory,
@@ -63,4 +100,11 @@ impl From<Memory> for ScriptFault {
     fn from(_error: Memory) -> ScriptFault {
         ScriptFault::Memory
     }
+}
+
+/// The refusal of a line.
+pub fn refused(line: u32, cause: Cause) -> ScriptFault
+    ensures { result ≡ ScriptFault.Refused line cause }
+{
+    ScriptFault::Refused { line, cause }
 }

@@ -1,5 +1,5 @@
 use Rattle.std.proofs.Common.{◌≡◌, ◌∙◌, ◌==◌, position, Some, refl, sym}
-use Rattle.host_scripts.specs.Reading.{cut_at}
+use Rattle.host_scripts.specs.Words.{cut_at}
 use Rattle.host_scripts.proofs.words.cut_bytes.Goals as goal
 
 pub returns-clause-value : goal.returns-clause-value

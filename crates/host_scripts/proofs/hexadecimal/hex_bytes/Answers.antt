@@ -1,12 +1,12 @@
-use Rattle.std.proofs.Common.{◌≡◌, None, Some, get_or, length, refl}
-use Rattle.host_scripts.specs.Reading.{hex_at, byte_of}
+use Rattle.std.proofs.Common.{◌≡◌, None, Some, get_or, length}
+use Rattle.host_scripts.specs.Words.{hex_at, byte_of}
 use Rattle.host_scripts.proofs.Loops.{is-empty, is-filled, pair-read, pair-broken, pairs-done, pairs-odd}
-use Rattle.host_scripts.proofs.lines.hex_bytes.Goals as goal
+use Rattle.host_scripts.proofs.hexadecimal.hex_bytes.Goals as goal
 
 pub returns-in_default-byte_of_digits : goal.returns-in_default-byte_of_digits
 returns-in_default-byte_of_digits c =
     let h : byte_of (get_or c.loop-rest.rest.now 0 0) (get_or c.loop-rest.rest.now 1 0) ≡ None = c.in_default-byte_of_digits.ensures in
-    (refl, refl, pair-broken c.loop-rest.bytes c.loop-rest.rest.now (hex_at c.args.text.now) c.in-len2-up.len_at_least h c.loop-rest.invariant)
+    pair-broken c.loop-rest.bytes c.loop-rest.rest.now (hex_at c.args.text.now) c.in-len2-up.len_at_least h c.loop-rest.invariant
 
 pub loop-rest-preserved : goal.loop-rest-preserved
 loop-rest-preserved c =
@@ -19,4 +19,4 @@ returns-then-is_empty c =
 
 pub returns-else-is_empty : goal.returns-else-is_empty
 returns-else-is_empty c =
-    (refl, refl, pairs-odd c.loop-rest.bytes c.loop-rest.rest.now (hex_at c.args.text.now) (is-filled (length c.loop-rest.rest.now) c.is_empty.result c.is_empty.ensures c.if-is_empty.false) c.in_default.len_below c.loop-rest.invariant)
+    pairs-odd c.loop-rest.bytes c.loop-rest.rest.now (hex_at c.args.text.now) (is-filled (length c.loop-rest.rest.now) c.is_empty.result c.is_empty.ensures c.if-is_empty.false) c.in_default.len_below c.loop-rest.invariant

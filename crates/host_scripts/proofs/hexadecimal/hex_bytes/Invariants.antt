@@ -1,7 +1,7 @@
 use Rattle.std.proofs.Common.{◌≡◌, length}
-use Rattle.host_scripts.specs.Reading.{hex_at}
+use Rattle.host_scripts.specs.Words.{hex_at}
 use Rattle.host_scripts.proofs.Loops.{with_front}
-use Rattle.host_scripts.proofs.lines.hex_bytes.Given as goal
+use Rattle.host_scripts.proofs.hexadecimal.hex_bytes.Given as goal
 
 abbrev pub invariant-loop-rest : goal.invariant-loop-rest
 invariant-loop-rest l = with_front l.bytes (hex_at l.rest) ≡ hex_at l.text

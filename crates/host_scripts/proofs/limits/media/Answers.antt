@@ -1,6 +1,6 @@
 use Rattle.std.proofs.Common.{ℕ, ◌*◌, ◌<◌, ◌≤◌, arith}
 use Rattle.std.proofs.Math.Nat.{mul-le-mul_right}
-use Rattle.host_scripts.proofs.first.are_small_media.Goals as goal
+use Rattle.host_scripts.proofs.limits.media.Goals as goal
 
 media-below : (t s u b : ℕ) → t ≤ 16 → s ≤ 4096 → u ≤ 4096 → b ≤ 4096 → t * (s * u) * b < 18446744073709551616
 media-below t s u b ht hs hu hb =

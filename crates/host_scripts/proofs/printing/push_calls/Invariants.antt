@@ -1,0 +1,7 @@
+use Rattle.std.proofs.Common.{◌≡◌, ◌++◌, drop, map}
+use Rattle.std.specs.List.{flat_map}
+use Rattle.host_scripts.specs.Scripts.{line, call_text}
+use Rattle.host_scripts.proofs.printing.push_calls.Given as goal
+
+abbrev pub invariant-loop-call : goal.invariant-loop-call
+invariant-loop-call l = l.text ++ flat_map line (map call_text (drop l.call-index l.calls)) ≡ l.initial.text ++ flat_map line (map call_text l.calls)

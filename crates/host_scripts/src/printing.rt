@@ -1,0 +1,233 @@
+//! The text of a script.
+
+ghost use Rattle.std.specs.Prelude.{◌≡◌, ◌<◌, ◌≤◌, ◌++◌, ◌∷◌, [], ℕ, All, OnOk, IfOk, codes, get_or, map, length};
+ghost use Rattle.std.specs.List.{flat_map};
+ghost use Rattle.host_scripts.specs.Printed.{shape_texts, start_texts};
+ghost use Rattle.host_scripts.specs.Scripts.{line, numeral, nibble, hex, hex_or_dash, letter, maxima_text, mode_text, order_texts, action_text, call_text, spelling, IsScript, Spells};
+
+use crate::script::{Action, Call, Script};
+use blocks_core::{Bytes, Memory};
+use itoa::Buffer;
+use std::alloc::Global;
+use stripe_layout::{Geometry, Mode};
+
+/// A number in decimal.
+fn push_number(text: &mut Bytes, number: u32) -> Result<(), Memory>
+    ensures { OnOk result (text.new ≡ text.old ++ numeral number) }
+{
+    let mut buffer = Buffer::new();
+    text.push_slice(buffer.format(number).as_bytes())
+}
+
+/// A keyword and a number.
+fn push_numbered(text: &mut Bytes, keyword: &[u8], number: u32) -> Result<(), Memory>
+    ensures { OnOk result (text.new ≡ text.old ++ (keyword.now ++ numeral number)) }
+{
+    text.push_slice(keyword)?;
+    push_number(text, number)
+}
+
+/// A line of a keyword and a number.
+fn push_number_line(text: &mut Bytes, keyword: &[u8], number: u32) -> Result<(), Memory>
+    ensures { OnOk result (text.new ≡ text.old ++ line (keyword.now ++ numeral number)) }
+{
+    push_numbered(text, keyword, number)?;
+    text.push(b'\n')
+}
+
+/// A keyword and two numbers.
+fn push_two(text: &mut Bytes, keyword: &[u8], first: u32, second: u32) -> Result<(), Memory>
+    ensures { OnOk result (text.new ≡ text.old ++ (keyword.now ++ (numeral first ++ 32 ∷ numeral second))) }
+{
+    push_numbered(text, keyword, first)?;
+    text.push(b' ')?;
+    push_number(text, second)
+}
+
+/// One hexadecimal digit, in lower case.
+fn digit_of(number: u8) -> u8
+    requires { number < 16 }
+    ensures { result ≡ nibble number }
+{
+    if number < 10 {
+        b'0' + number
+    } else {
+        b'a' - 10 + number
+    }
+}
+
+/// Each byte as two digits.
+fn push_hex(text: &mut Bytes, bytes: &[u8]) -> Result<(), Memory>
+    ensures { OnOk result (text.new ≡ text.old ++ hex bytes.now) }
+{
+    for byte in bytes {
+        text.push(digit_of(*byte / 16))?;
+        text.push(digit_of(*byte % 16))?;
+    }
+    Ok(())
+}
+
+/// Bytes as digits, or a dash where there are none.
+fn push_data(text: &mut Bytes, bytes: &[u8]) -> Result<(), Memory>
+    ensures { OnOk result (text.new ≡ text.old ++ hex_or_dash bytes.now) }
+{
+    match bytes {
+        [] => text.push(b'-'),
+        _ => push_hex(text, bytes),
+    }
+}
+
+/// What stands behind a host's letter where it writes bytes.
+fn push_write(text: &mut Bytes, lba: u32, bytes: &[u8]) -> Result<(), Memory>
+    ensures { OnOk result (text.new ≡ text.old ++ (codes "write " ++ (numeral lba ++ 32 ∷ hex_or_dash bytes.now))) }
+{
+    push_numbered(text, b"write ", lba)?;
+    text.push(b' ')?;
+    push_data(text, bytes)
+}
+
+/// The same where it fills blocks with a byte.
+fn push_fill(text: &mut Bytes, lba: u32, count: u32, byte: u8) -> Result<(), Memory>
+    ensures { OnOk result (text.new ≡ text.old ++ (codes "fill " ++ (numeral lba ++ 32 ∷ (numeral count ++ 32 ∷ hex (byte ∷ []))))) }
+{
+    push_two(text, b"fill ", lba, count)?;
+    text.push(b' ')?;
+    push_hex(text, &[byte])
+}
+
+/// The same of a command descriptor block and its data.
+fn push_raw(text: &mut Bytes, cdb: &[u8], bytes: &[u8]) -> Result<(), Memory>
+    ensures { OnOk result (text.new ≡ text.old ++ (codes "cdb " ++ (hex cdb.now ++ 32 ∷ hex_or_dash bytes.now))) }
+{
+    text.push_slice(b"cdb ")?;
+    push_hex(text, cdb)?;
+    text.push(b' ')?;
+    push_data(text, bytes)
+}
+
+/// What a host asks.
+fn push_action(text: &mut Bytes, action: &Action) -> Result<(), Memory>
+    ensures { OnOk result (text.new ≡ text.old ++ action_text action.now) }
+{
+    match action {
+        Action::Read { lba, count } => push_two(text, b"read ", *lba, u32::from(*count)),
+        Action::Write { lba, bytes } => push_write(text, *lba, bytes.as_slice()),
+        Action::Fill { lba, count, byte } => push_fill(text, *lba, u32::from(*count), *byte),
+        Action::Raw { cdb, bytes } => push_raw(text, cdb.as_slice(), bytes.as_slice()),
+        Action::Lose { target } => push_numbered(text, b"lose ", u32::from(*target)),
+        Action::Reset { target } => push_numbered(text, b"reset ", u32::from(*target)),
+        Action::DropNext { target } => push_numbered(text, b"drop ", u32::from(*target)),
+        Action::Replace { target } => push_numbered(text, b"replace ", u32::from(*target)),
+        Action::Rebuild { target } => push_numbered(text, b"rebuild ", u32::from(*target)),
+        Action::Resync => text.push_slice(b"resync"),
+    }
+}
+
+/// The line of a call.
+fn push_call(text: &mut Bytes, call: &Call) -> Result<(), Memory>
+    requires { call.now.host < 26 }
+    ensures { OnOk result (text.new ≡ text.old ++ line (call_text call.now)) }
+{
+    text.push(b'A' + call.host)?;
+    text.push(b' ')?;
+    push_action(text, &call.action)?;
+    text.push(b'\n')
+}
+
+/// The lines of all calls.
+fn push_calls(text: &mut Bytes, calls: &[Call]) -> Result<(), Memory>
+    requires { All (λ call. call.host < 26) calls.now }
+    ensures { OnOk result (text.new ≡ text.old ++ flat_map line (map call_text calls.now)) }
+{
+    for call in calls {
+        push_call(text, call)?;
+    }
+    Ok(())
+}
+
+/// The letters of hosts.
+fn push_letters(text: &mut Bytes, hosts: &[u8]) -> Result<(), Memory>
+    requires { All (λ host. host < 26) hosts.now }
+    ensures { OnOk result (text.new ≡ text.old ++ map letter hosts.now) }
+{
+    for host in hosts {
+        text.push(b'A' + *host)?;
+    }
+    Ok(())
+}
+
+/// The line of the first turns, where there are some.
+fn push_order(text: &mut Bytes, hosts: &[u8]) -> Result<(), Memory>
+    requires { All (λ host. host < 26) hosts.now }
+    ensures { OnOk result (text.new ≡ text.old ++ flat_map line (order_texts hosts.now)) }
+{
+    if hosts.is_empty() {
+        return Ok(());
+    }
+    text.push_slice(b"order ")?;
+    push_letters(text, hosts)?;
+    text.push(b'\n')
+}
+
+/// The line of the version.
+fn push_version(text: &mut Bytes) -> Result<(), Memory>
+    ensures { OnOk result (text.new ≡ text.old ++ line (codes "xorscript 1")) }
+{
+    text.push_slice(b"xorscript 1\n")
+}
+
+/// The lines of the version and of the array's shape.
+fn push_shape(text: &mut Bytes, geometry: &Geometry) -> Result<(), Memory>
+    ensures { OnOk result (text.new ≡ text.old ++ flat_map line (shape_texts geometry.now)) }
+{
+    push_version(text)?;
+    push_number_line(text, b"targets ", u32::from(geometry.targets))?;
+    push_number_line(text, b"block ", geometry.block)?;
+    push_number_line(text, b"unit ", geometry.unit)?;
+    push_number_line(text, b"stripes ", geometry.stripes)
+}
+
+/// The line of the maxima.
+fn push_maxima(text: &mut Bytes, maxima: &[u32; 3]) -> Result<(), Memory>
+    ensures { OnOk result (text.new ≡ text.old ++ line (maxima_text (get_or maxima.now 0 0) (get_or maxima.now 1 0) (get_or maxima.now 2 0))) }
+{
+    push_two(text, b"maxima ", maxima[0], maxima[1])?;
+    text.push(b' ')?;
+    push_number(text, maxima[2])?;
+    text.push(b'\n')
+}
+
+/// The line of the mode.
+fn push_mode(text: &mut Bytes, mode: Mode) -> Result<(), Memory>
+    ensures { OnOk result (text.new ≡ text.old ++ line (mode_text mode)) }
+{
+    match mode {
+        Mode::Supervised => text.push_slice(b"mode supervised\n"),
+        Mode::ThirdParty => text.push_slice(b"mode thirdparty\n"),
+    }
+}
+
+/// The lines of what each target starts with, and of how the hosts run.
+fn push_starts(text: &mut Bytes, script: &Script) -> Result<(), Memory>
+    ensures { OnOk result (text.new ≡ text.old ++ flat_map line (start_texts script.now)) }
+{
+    push_number_line(text, b"buffer ", script.buffer)?;
+    push_maxima(text, &script.maxima)?;
+    push_mode(text, script.mode)?;
+    push_number_line(text, b"seed ", script.seed)?;
+    push_number_line(text, b"hosts ", u32::from(script.hosts))
+}
+
+/// The one spelling of a script, which `parse` reads again.
+pub fn print(alloc: Global, script: &Script) -> Result<Bytes, Memory>
+    requires { IsScript script.now }
+    ensures spelling { IfOk result (λ text. text ≡ spelling script.now) }
+    ensures again { IfOk result (λ text. Spells text script.now) }
+{
+    let mut text = Bytes::new(alloc);
+    push_shape(&mut text, &script.geometry)?;
+    push_starts(&mut text, script)?;
+    push_order(&mut text, script.order.as_slice())?;
+    push_calls(&mut text, script.calls.as_slice())?;
+    Ok(text)
+}
