@@ -5,3 +5,5 @@ pub mod Additions
 pub mod Counting
 pub mod Summaries
 pub mod Settings
+pub mod WorkedJournals
+pub mod OnePiece

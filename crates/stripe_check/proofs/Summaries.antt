@@ -15,15 +15,17 @@ use Rattle.host_scripts.specs.declared.script.Call.{Call}
 use Rattle.host_scripts.specs.declared.script.Script.{Script}
 use Rattle.std.proofs.lemmas.List.{length-reverse}
 use Rattle.stripe_check.specs.declared.brief.Command.{Command}
+use Rattle.stripe_check.specs.declared.brief.Tally.{Tally}
 use Rattle.stripe_check.specs.declared.check.Failure.{Failure}
 use Rattle.stripe_check.specs.declared.losses.Losses.{Losses}
 use Rattle.stripe_check.specs.declared.story.Story.{Story}
 use Rattle.stripe_check.specs.Findings.{IsFound}
-use Rattle.stripe_check.specs.Folds.{AreMedia, AreCommands, AreListed, AreReads, AreFailures, brief_of, unknown}
+use Rattle.stripe_check.specs.Folds.{AreMedia, AreCommands, AreListed, AreReads, AreFailures, AreTallies, brief_of, unknown}
 use Rattle.stripe_check.specs.Found.{any_lost, sums_to_zero, is_whole, listed_count, dirty_briefly, listed_lines, counts_line, entries_text, summary_found, replies_found}
 use Rattle.stripe_check.specs.Losing.{AreLosses}
 use Rattle.stripe_check.specs.Replies.{reply_lines, answer_line, bytes_read, failure_of}
 use Rattle.stripe_check.specs.Reports.{setting_of, dirty_line, dirty_text, absent_text, summary_in, summary_of, report_of}
+use Rattle.stripe_check.specs.Tallies.{untold, tally_of}
 use Rattle.stripe_check.specs.Sums.{unit_bytes, unit_on, sum_of, has_absent, is_zero, is_balanced, parts_on}
 use Rattle.stripe_check.proofs.Counting.{same-filter, same-any, same-flat_map}
 
@@ -112,15 +114,17 @@ summary-is s past kept commands listed lost made are known dirt count losses =
 
 -- ---- answers
 
-pub replies-are : (g : Geometry) (past : List Entry) (reads : List (List ℕ)) (failures : List (Option Failure)) → AreReads g past reads → AreFailures past failures →
-    (n : ℕ) (calls : List Call) → n + length calls ≤ length reads → n + length calls ≤ length failures →
-    replies_found reads failures n calls ≡ reply_lines g past (n + 1) calls
-replies-are g past reads failures read failed n [] le le2 = refl
-replies-are g past reads failures read failed n (call ∷ calls) le le2 =
+pub replies-are : (g : Geometry) (past : List Entry) (reads : List (List ℕ)) (failures : List (Option Failure)) (tallies : List Tally) →
+    AreReads g past reads → AreFailures past failures → AreTallies past tallies →
+    (n : ℕ) (calls : List Call) → n + length calls ≤ length reads → n + length calls ≤ length failures → n + length calls ≤ length tallies →
+    replies_found reads failures tallies n calls ≡ reply_lines g past (n + 1) calls
+replies-are g past reads failures tallies read failed tallied n [] le le2 le3 = refl
+replies-are g past reads failures tallies read failed tallied n (call ∷ calls) le le2 le3 =
     let told : get_or reads n [] ≡ bytes_read g (n + 1) past = read.each n (omega arith) in
     let why : get_or failures n None ≡ failure_of (n + 1) past = failed.each n (omega arith) in
-    rw (told, why) (ap (λ xs. answer_line (n + 1) call (bytes_read g (n + 1) past) (failure_of (n + 1) past) ++ xs)
-    (replies-are g past reads failures read failed (n + 1) calls (omega arith) (omega arith)))
+    let tally : get_or tallies n untold ≡ tally_of (n + 1) past = tallied.each n (omega arith) in
+    rw (told, why, tally) (ap (λ xs. answer_line (n + 1) call (bytes_read g (n + 1) past) (failure_of (n + 1) past) (tally_of (n + 1) past) ++ xs)
+    (replies-are g past reads failures tallies read failed tallied (n + 1) calls (omega arith) (omega arith) (omega arith)))
 
 -- ---- texts
 
@@ -140,14 +144,15 @@ summary-text script journal s calls entries kept story losses start text set fou
 
 pub report-text : (script : Script) (journal : List Entry) (s : Setting) (calls entries : ℕ) (kept : List (List ℕ)) (story : Story) (losses : Losses) (start first text : List ℕ) →
     s ≡ setting_of script → IsFound s calls (reverse journal) kept story losses → calls ≡ length script.calls → entries ≡ length journal → start ≡ [] →
-    first ≡ start ++ replies_found story.reads.items story.failures.items 0 script.calls →
+    first ≡ start ++ replies_found story.reads.items story.failures.items story.tallies.items 0 script.calls →
     text ≡ first ++ summary_found s.geometry entries kept story.commands.items story.listed.items losses.lost.items losses.made.items →
     text ≡ report_of script journal
 unfolding report_of summary_of
 report-text script journal s calls entries kept story losses start first text set found number count nothing answered said =
-    let replies = replies-are script.geometry (reverse journal) story.reads.items story.failures.items (found.told.read script.geometry) found.told.failed 0 script.calls
-    (omega (arith, found.told.read_count)) (omega (arith, found.told.failed_count)) in
-    let lines = answered ∙ ap (λ xs. xs ++ replies_found story.reads.items story.failures.items 0 script.calls) nothing ∙ replies in
+    let replies = replies-are script.geometry (reverse journal) story.reads.items story.failures.items story.tallies.items
+    (found.told.read script.geometry) found.told.failed found.told.tallied 0 script.calls
+    (omega (arith, found.told.read_count)) (omega (arith, found.told.failed_count)) (omega (arith, found.told.tallied_count)) in
+    let lines = answered ∙ ap (λ xs. xs ++ replies_found story.reads.items story.failures.items story.tallies.items 0 script.calls) nothing ∙ replies in
     let rest = summary-text script journal s calls entries kept story losses []
     (summary_found s.geometry entries kept story.commands.items story.listed.items losses.lost.items losses.made.items) set found count refl refl in
     said

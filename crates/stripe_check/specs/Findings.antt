@@ -10,5 +10,5 @@ use Rattle.stripe_check.specs.Stories.{Tells}
 
 pub record IsFound (s : Setting) (calls : ℕ) (past : List Entry) (media : List (List ℕ)) (story : Story) (losses : Losses) : Type 0 where
   pub stands : AreMedia s past media
-  pub told : Tells calls s.geometry.stripes past story.commands.items story.reads.items story.failures.items story.listed.items
+  pub told : Tells calls s.geometry.stripes past story.commands.items story.reads.items story.failures.items story.tallies.items story.listed.items
   pub lost : AreLosses s past past losses.lost.items losses.made.items

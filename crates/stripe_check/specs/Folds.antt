@@ -14,8 +14,10 @@ use Rattle.array_journal.specs.Lives.{closes_done, is_rebuild}
 use Rattle.array_journal.specs.Media.{media}
 use Rattle.stripe_check.specs.declared.brief.Brief.{Brief}
 use Rattle.stripe_check.specs.declared.brief.Command.{Command}
+use Rattle.stripe_check.specs.declared.brief.Tally.{Tally}
 use Rattle.stripe_check.specs.declared.check.Failure.{Failure}
 use Rattle.stripe_check.specs.Replies.{bytes_read, failure_of}
+use Rattle.stripe_check.specs.Tallies.{untold, tally_of}
 
 -- the media of all targets, in their order
 pub record AreMedia (s : Setting) (past : List Entry) (kept : List (List ℕ)) : Type 0 where
@@ -57,6 +59,10 @@ pub record AreReads (g : Geometry) (past : List Entry) (kept : List (List ℕ)) 
 -- why each call failed
 pub record AreFailures (past : List Entry) (kept : List (Option Failure)) : Type 0 where
   pub each : (n : ℕ) → n < length kept → get_or kept n None ≡ failure_of (n + 1) past
+
+-- the tally of each call
+pub record AreTallies (past : List Entry) (kept : List Tally) : Type 0 where
+  pub each : (n : ℕ) → n < length kept → get_or kept n untold ≡ tally_of (n + 1) past
 
 -- a command makes the parity of its stripe anew
 abbrev pub briefly_renews : Kind → Brief → Bool

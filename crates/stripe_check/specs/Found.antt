@@ -8,12 +8,14 @@ use Rattle.host_scripts.specs.declared.script.Call.{Call}
 use Rattle.host_scripts.specs.Scripts.{line}
 use Rattle.stripe_check.specs.declared.brief.Brief.{Brief}
 use Rattle.stripe_check.specs.declared.brief.Command.{Command}
+use Rattle.stripe_check.specs.declared.brief.Tally.{Tally}
 use Rattle.stripe_check.specs.declared.check.Failure.{Failure}
 use Rattle.stripe_check.specs.Folds.{unknown}
 use Rattle.stripe_check.specs.Losing.{is_lost}
 use Rattle.stripe_check.specs.Reports.{absent_text}
 use Rattle.stripe_check.specs.Replies.{answer_line}
 use Rattle.stripe_check.specs.Sums.{unit_bytes, is_zero, parts_on}
+use Rattle.stripe_check.specs.Tallies.{untold}
 use Rattle.stripe_check.specs.Texts.{counted}
 
 -- some unit of a stripe was lost
@@ -81,6 +83,7 @@ summary_found g count media kept listed lost made =
     ++ lost_lines lost made g.targets g.stripes))
 
 -- the answers to calls, by what was kept of those behind n of them
-abbrev pub replies_found : List (List ℕ) → List (Option Failure) → ℕ → List Call → List ℕ
-replies_found reads failures n [] = []
-replies_found reads failures n (call ∷ calls) = answer_line (n + 1) call (get_or reads n []) (get_or failures n None) ++ replies_found reads failures (n + 1) calls
+abbrev pub replies_found : List (List ℕ) → List (Option Failure) → List Tally → ℕ → List Call → List ℕ
+replies_found reads failures tallies n [] = []
+replies_found reads failures tallies n (call ∷ calls) =
+    answer_line (n + 1) call (get_or reads n []) (get_or failures n None) (get_or tallies n untold) ++ replies_found reads failures tallies (n + 1) calls

@@ -1,4 +1,5 @@
 pub mod Texts
+pub mod Tallies
 pub mod Replies
 pub mod Sums
 pub mod Reports
@@ -8,3 +9,9 @@ pub mod Stories
 pub mod Found
 pub mod Findings
 pub mod Traces
+pub mod Cuts
+pub mod Jobs
+pub mod Begins
+pub mod Steps
+pub mod Asked
+pub mod Worked

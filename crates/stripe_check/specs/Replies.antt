@@ -1,5 +1,5 @@
 -- What each call of a script is answered, as a journal tells it. A list called past has the newest entry first.
-use Rattle.std.specs.Prelude.{ℕ, ◌+◌, ◌==◌, if◌then◌else◌, Bool, false, List, [], ◌∷◌, ◌++◌, Option, Some, None, codes}
+use Rattle.std.specs.Prelude.{ℕ, ◌+◌, ◌==◌, if◌then◌else◌, List, [], ◌∷◌, ◌++◌, slice_index, Option, Some, None, codes}
 use Rattle.std.specs.Option.{option_map}
 use Rattle.std.specs.Fmt.{decimal}
 use Rattle.sense_data.specs.declared.senses.Pointer.{Pointer}
@@ -14,13 +14,15 @@ use Rattle.array_journal.specs.declared.task.Task.{Task}
 use Rattle.array_journal.specs.Commands.{task_of}
 use Rattle.array_journal.specs.Host.{HostItem, ReadItem, WroteItem, RefusedItem, host}
 use Rattle.host_scripts.specs.declared.script.Action.{Action}
-use Rattle.host_scripts.specs.declared.script.Action.TheVariants.{Read, Write}
+use Rattle.host_scripts.specs.declared.script.Action.TheVariants.{Read, Write, Fill, Raw, Lose, Reset, DropNext, Replace, Rebuild, Resync}
 use Rattle.host_scripts.specs.declared.script.Call.{Call}
 use Rattle.host_scripts.specs.Scripts.{line, hex, letter}
+use Rattle.stripe_check.specs.declared.brief.Tally.{Tally}
 use Rattle.stripe_check.specs.declared.check.Check.{Check}
 use Rattle.stripe_check.specs.declared.check.Failure.{Failure}
 use Rattle.stripe_check.specs.declared.check.Failure.TheVariants.{Refused, Spoilt}
-use Rattle.stripe_check.specs.Texts.{upper_nibble, upper_byte}
+use Rattle.stripe_check.specs.Tallies.{is_of_call, tally_of}
+use Rattle.stripe_check.specs.Texts.{upper_nibble, upper_byte, counted}
 
 -- the bytes that an item tells a call
 abbrev pub told_bytes : ℕ → HostItem → List ℕ
@@ -35,10 +37,6 @@ bytes_told n (item ∷ past) = bytes_told n past ++ told_bytes n item
 
 abbrev pub bytes_read : Geometry → ℕ → List Entry → List ℕ
 bytes_read g n past = bytes_told n (host g past)
-
-abbrev pub is_of_call : ℕ → Option Task → Bool
-is_of_call n None = false
-is_of_call n (Some task) = task.call == n
 
 -- why an event makes a call fail: it refuses a piece of it, or ends a command of it with the delta lost
 abbrev pub failure_by : ℕ → Event → Option Task → Option Failure
@@ -108,19 +106,46 @@ abbrev pub host_text : Check → List ℕ → Option Failure → List ℕ
 host_text medium bytes None = good_text bytes
 host_text medium bytes (Some failure) = check_text (failure_check medium failure)
 
--- The answer to each kind of call, by the bytes that it was told and why it failed. A medium error is an
--- unrecovered read error to a reader, and a write error to a writer.
-abbrev pub reply_text : Action → List ℕ → Option Failure → List ℕ
-reply_text (Read lba count) bytes failure = host_text (plain_check 3 17 0) bytes failure
-reply_text (Write lba sent) bytes failure = host_text (plain_check 3 12 0) bytes failure
+-- a missing unit of a listed stripe is an unrecovered read error to a reader, and a write error to a writer
+abbrev pub read_error : Check
+read_error = plain_check 3 0x11 0
 
--- the line of the call with a number, by what it was told
-abbrev pub answer_line : ℕ → Call → List ℕ → Option Failure → List ℕ
-answer_line n call bytes failure = line (decimal n ++ (32 ∷ letter call.host ∷ 32 ∷ reply_text call.action bytes failure))
+abbrev pub write_error : Check
+write_error = plain_check 3 0x0c 0
+
+-- a CDB writes by its operation code, that of WRITE(10)
+abbrev pub cdb_error : List ℕ → Check
+cdb_error cdb = if slice_index cdb 0 == 0x2a then write_error else read_error
+
+-- a disk was replaced, unless it was refused
+abbrev pub replaced_text : Option Failure → List ℕ
+replaced_text None = codes "done"
+replaced_text (Some failure) = codes "refused"
+
+-- how many stripes were made anew, and how many were left as they are
+abbrev pub tally_text : Tally → List ℕ
+tally_text t = counted (codes "done") t.done (32 ∷ decimal t.left)
+
+-- the answer to each kind of call, by the bytes that it was told, why it failed, and the tally of its pieces
+abbrev pub reply_text : Action → List ℕ → Option Failure → Tally → List ℕ
+reply_text (Read lba count) bytes failure tally = host_text read_error bytes failure
+reply_text (Write lba sent) bytes failure tally = host_text write_error bytes failure
+reply_text (Fill lba count byte) bytes failure tally = host_text write_error bytes failure
+reply_text (Raw cdb sent) bytes failure tally = host_text (cdb_error cdb) bytes failure
+reply_text (Lose target) bytes failure tally = codes "done"
+reply_text (Reset target) bytes failure tally = codes "done"
+reply_text (DropNext target) bytes failure tally = codes "done"
+reply_text (Replace target) bytes failure tally = replaced_text failure
+reply_text (Rebuild target) bytes failure tally = tally_text tally
+reply_text Resync bytes failure tally = tally_text tally
+
+-- the line of the call with a number, by what is known of it
+abbrev pub answer_line : ℕ → Call → List ℕ → Option Failure → Tally → List ℕ
+answer_line n call bytes failure tally = line (decimal n ++ (32 ∷ letter call.host ∷ 32 ∷ reply_text call.action bytes failure tally))
 
 -- the line of the call with a number, as a journal tells it
 abbrev pub reply_line : Geometry → List Entry → ℕ → Call → List ℕ
-reply_line g past n call = answer_line n call (bytes_read g n past) (failure_of n past)
+reply_line g past n call = answer_line n call (bytes_read g n past) (failure_of n past) (tally_of n past)
 
 -- the lines of calls, numbered from n
 abbrev pub reply_lines : Geometry → List Entry → ℕ → List Call → List ℕ

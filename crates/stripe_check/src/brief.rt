@@ -17,3 +17,10 @@ pub struct Command {
     pub brief: Option<Brief>,
     pub done: bool,
 }
+
+/// How many pieces of a call were closed as done, and how many were refused and left as they are.
+#[derive(Clone, Copy, Debug, PartialEq, Eq)]
+pub struct Tally {
+    pub done: u64,
+    pub left: u64,
+}

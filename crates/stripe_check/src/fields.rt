@@ -19,6 +19,7 @@ fn put_word(text: &mut Bytes, word: &[u8]) -> Result<(), Memory>
     text.push_slice(word)
 }
 
+/// A space and a number in decimal, at the end of a text.
 pub fn put_number(text: &mut Bytes, number: u64) -> Result<(), Memory>
     ensures { OnOk result (text.new ≡ text.old ++ field (decimal number)) }
 {
@@ -26,6 +27,7 @@ pub fn put_number(text: &mut Bytes, number: u64) -> Result<(), Memory>
     push_number(text, number)
 }
 
+/// A space and `1` for true or `0` for false, at the end of a text.
 pub fn put_flag(text: &mut Bytes, flag: bool) -> Result<(), Memory>
     ensures { OnOk result (text.new ≡ text.old ++ field (flag_text flag)) }
 {
@@ -36,7 +38,7 @@ pub fn put_flag(text: &mut Bytes, flag: bool) -> Result<(), Memory>
     }
 }
 
-/// Bytes in hexadecimal, or a dash for none.
+/// A space and bytes in lower-case hexadecimal, or a dash for none, at the end of a text.
 pub fn put_bytes(text: &mut Bytes, bytes: &[u8]) -> Result<(), Memory>
     ensures { OnOk result (text.new ≡ text.old ++ field (hex_or_dash bytes.now)) }
 {

@@ -22,7 +22,7 @@ fn medium_size(geometry: &Geometry) -> usize
 }
 
 /// What an event at a target does to its medium.
-fn write_event(
+pub fn write_event(
     alloc: Global,
     medium: &mut Medium,
     setting: &Setting,
@@ -46,7 +46,7 @@ fn write_event(
 }
 
 /// What an entry does to the media: that of lock i + 1 is target i's.
-fn write_entry(
+pub fn write_entry(
     alloc: Global,
     media: &mut Vec<Medium>,
     setting: &Setting,
@@ -63,7 +63,7 @@ fn write_entry(
 }
 
 /// The media before any entry.
-fn first_media(alloc: Global, setting: &Setting) -> Result<Vec<Medium>, Memory>
+pub fn first_media(alloc: Global, setting: &Setting) -> Result<Vec<Medium>, Memory>
     requires { IsArray setting.now.geometry }
     ensures { IfOk result (λ m. AreMedia setting.now [] m.items) }
 {

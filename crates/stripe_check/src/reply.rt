@@ -1,11 +1,12 @@
 //! The answers to calls, and their lines.
 
-ghost use Rattle.std.specs.Prelude.{◌≡◌, ◌<◌, ◌++◌, ◌∷◌, OnOk};
+ghost use Rattle.std.specs.Prelude.{◌≡◌, ◌==◌, ◌<◌, ◌++◌, ◌∷◌, OnOk, slice_index, if◌then◌else◌};
 ghost use Rattle.stripe_check.specs.Texts.{upper_byte};
-ghost use Rattle.stripe_check.specs.Replies.{plain_check, sense_check, refusal_check, failure_check, byte_text, check_text, good_text, host_text, reply_text, answer_line};
+ghost use Rattle.stripe_check.specs.Replies.{plain_check, sense_check, refusal_check, failure_check, byte_text, check_text, good_text, host_text, read_error, write_error, replaced_text, tally_text, reply_text, answer_line};
 
+use crate::brief::Tally;
 use crate::check::{Check, Failure};
-use crate::text::{push_hex, push_number, push_upper_byte, upper_nibble};
+use crate::text::{push_counted, push_hex, push_number, push_upper_byte, upper_nibble};
 use array_journal::Why;
 use blocks_core::{Bytes, Memory};
 use host_scripts::{Action, Call};
@@ -118,18 +119,72 @@ fn push_host_answer(
     }
 }
 
-/// The answer to a call that was told these bytes, and why it failed if it did.
+/// What a host is told of a missing unit of a listed stripe: an unrecovered read error where it reads,
+/// and a write error where it writes.
+fn medium_error(writes: bool) -> Check
+    ensures check { result ≡ (if writes then write_error else read_error) }
+    ensures key { result.key < 16 }
+{
+    if writes {
+        plain_check(3, 0x0c, 0)
+    } else {
+        plain_check(3, 0x11, 0)
+    }
+}
+
+/// Whether a CDB has the operation code of WRITE(10).
+fn is_write(cdb: &[u8]) -> bool
+    ensures { result ≡ (slice_index cdb.now 0 == 0x2a) }
+{
+    match cdb {
+        [] => false,
+        [code, ..] => *code == 0x2a,
+    }
+}
+
+/// The answer to a replacement.
+fn push_replaced(text: &mut Bytes, failure: &Option<Failure>) -> Result<(), Memory>
+    ensures { OnOk result (text.new ≡ text.old ++ replaced_text failure.now) }
+{
+    match failure {
+        None => text.push_slice(b"done"),
+        Some(_) => text.push_slice(b"refused"),
+    }
+}
+
+/// The answer to a call that goes over all stripes.
+fn push_tally(text: &mut Bytes, tally: &Tally) -> Result<(), Memory>
+    ensures { OnOk result (text.new ≡ text.old ++ tally_text tally.now) }
+{
+    push_counted(text, b"done", tally.done)?;
+    text.push(b' ')?;
+    push_number(text, tally.left)
+}
+
+/// The answer to a call, by the bytes that it was told, why it failed if it did, and the tally of its
+/// pieces.
 fn push_answer(
     text: &mut Bytes,
     action: &Action,
     bytes: &[u8],
     failure: &Option<Failure>,
+    tally: &Tally,
 ) -> Result<(), Memory>
-    ensures { OnOk result (text.new ≡ text.old ++ reply_text action.now bytes.now failure.now) }
+    ensures { OnOk result (text.new ≡ text.old ++ reply_text action.now bytes.now failure.now tally.now) }
 {
     match action {
-        Action::Read { .. } => push_host_answer(text, plain_check(3, 0x11, 0), bytes, failure),
-        Action::Write { .. } => push_host_answer(text, plain_check(3, 0x0c, 0), bytes, failure),
+        Action::Read { .. } => push_host_answer(text, medium_error(false), bytes, failure),
+        Action::Write { .. } | Action::Fill { .. } => {
+            push_host_answer(text, medium_error(true), bytes, failure)
+        }
+        Action::Raw { cdb, .. } => {
+            push_host_answer(text, medium_error(is_write(cdb.as_slice())), bytes, failure)
+        }
+        Action::Lose { .. } | Action::Reset { .. } | Action::DropNext { .. } => {
+            text.push_slice(b"done")
+        }
+        Action::Replace { .. } => push_replaced(text, failure),
+        Action::Rebuild { .. } | Action::Resync => push_tally(text, tally),
     }
 }
 
@@ -140,12 +195,13 @@ pub fn push_reply(
     call: &Call,
     bytes: &[u8],
     failure: &Option<Failure>,
+    tally: &Tally,
 ) -> Result<(), Memory>
     requires { call.now.host < 26 }
-    ensures { OnOk result (text.new ≡ text.old ++ answer_line number call.now bytes.now failure.now) }
+    ensures { OnOk result (text.new ≡ text.old ++ answer_line number call.now bytes.now failure.now tally.now) }
 {
     push_number(text, number)?;
     text.push_slice(&[b' ', b'A' + call.host, b' '])?;
-    push_answer(text, &call.action, bytes, failure)?;
+    push_answer(text, &call.action, bytes, failure, tally)?;
     text.push(b'\n')
 }

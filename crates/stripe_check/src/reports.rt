@@ -10,7 +10,9 @@ ghost use Rattle.stripe_check.specs.Findings.{IsFound};
 ghost use Rattle.stripe_check.specs.Found.{summary_found, replies_found};
 ghost use Rattle.stripe_check.specs.Reports.{setting_of, summary_of, report_of};
 ghost use Rattle.stripe_check.specs.Sums.{sum_of};
+ghost use Rattle.stripe_check.specs.Tallies.{untold};
 
+use crate::brief::Tally;
 use crate::check::Failure;
 use crate::counts::{
     count_listed, count_lost, count_zero, push_all_absent, push_all_listed, push_counts,
@@ -86,19 +88,31 @@ fn failure_at(failures: &[Option<Failure>], place: usize) -> Option<Failure>
     }
 }
 
+/// The tally of a call, by its place.
+fn tally_at(tallies: &[Tally], place: usize) -> Tally
+    ensures { result ≡ get_or tallies.now place untold }
+{
+    match tallies.get(place) {
+        Some(tally) => *tally,
+        None => Tally { done: 0, left: 0 },
+    }
+}
+
 /// A line for each call.
 fn push_replies(text: &mut Bytes, calls: &[Call], story: &Story) -> Result<(), Memory>
     requires { AllByRecursion (λ (call : Call). call.host < 26) calls.now }
-    ensures { OnOk result (text.new ≡ text.old ++ replies_found story.now.reads.items story.now.failures.items 0 calls.now) }
+    ensures { OnOk result (text.new ≡ text.old ++ replies_found story.now.reads.items story.now.failures.items story.now.tallies.items 0 calls.now) }
 {
     for (place, call) in calls.iter().enumerate() {
         let failure = failure_at(&story.failures, place);
+        let tally = tally_at(&story.tallies, place);
         push_reply(
             text,
             place as u64 + 1,
             call,
             read_at(&story.reads, place),
             &failure,
+            &tally,
         )?;
     }
     Ok(())

@@ -5,27 +5,29 @@ ghost use Rattle.array_journal.specs.declared.entry.Entry.{Entry};
 ghost use Rattle.stripe_check.specs.Stories.{Tells};
 
 use crate::answers::{keep_failure, keep_read};
-use crate::brief::Command;
+use crate::brief::{Command, Tally};
 use crate::check::Failure;
 use crate::commands::keep_command;
 use crate::listed::keep_listed;
+use crate::tallies::keep_tally;
 use array_journal::{Entry, Journal};
 use blocks_core::{Bytes, Memory};
 use std::alloc::Global;
 
-/// What the entries so far tell: of each command; to each call, and why it failed; and which stripes
-/// are listed, with their commands.
+/// What the entries so far tell: of each command; to each call, why it failed, and the tally of its
+/// pieces; and which stripes are listed, with their commands.
 #[derive(Drop)]
 pub struct Story {
     pub commands: Vec<Command>,
     pub reads: Vec<Bytes>,
     pub failures: Vec<Option<Failure>>,
+    pub tallies: Vec<Tally>,
     pub listed: Vec<Option<u32>>,
 }
 
 /// Nothing is told yet, of so many calls and stripes.
 fn first_story(alloc: Global, calls: usize, stripes: usize) -> Result<Story, Memory>
-    ensures { IfOk result (λ story. Tells calls stripes [] story.commands.items story.reads.items story.failures.items story.listed.items) }
+    ensures { IfOk result (λ story. Tells calls stripes [] story.commands.items story.reads.items story.failures.items story.tallies.items story.listed.items) }
 {
     let mut reads = Vec::new(alloc);
     for _ in 0..calls {
@@ -35,17 +37,19 @@ fn first_story(alloc: Global, calls: usize, stripes: usize) -> Result<Story, Mem
         commands: Vec::new(alloc),
         reads,
         failures: vec![in alloc; None; calls]?,
+        tallies: vec![in alloc; Tally { done: 0, left: 0 }; calls]?,
         listed: vec![in alloc; None; stripes]?,
     })
 }
 
 /// What one more entry tells.
 fn tell(story: &mut Story, entry: &Entry) -> Result<(), Memory>
-    ensures { OnOk result ((calls stripes : ℕ) (past : List Entry) → Tells calls stripes past story.old.commands.items story.old.reads.items story.old.failures.items story.old.listed.items
-        → Tells calls stripes (entry.now ∷ past) story.new.commands.items story.new.reads.items story.new.failures.items story.new.listed.items) }
+    ensures { OnOk result ((calls stripes : ℕ) (past : List Entry) → Tells calls stripes past story.old.commands.items story.old.reads.items story.old.failures.items story.old.tallies.items story.old.listed.items
+        → Tells calls stripes (entry.now ∷ past) story.new.commands.items story.new.reads.items story.new.failures.items story.new.tallies.items story.new.listed.items) }
 {
     keep_read(&mut story.reads, &story.commands, entry)?;
     keep_failure(&mut story.failures, &story.commands, entry);
+    keep_tally(&mut story.tallies, &story.commands, entry)?;
     keep_listed(&mut story.listed, &story.commands, entry);
     keep_command(&mut story.commands, entry)
 }
@@ -57,7 +61,7 @@ pub fn story_of(
     stripes: usize,
     journal: &Journal,
 ) -> Result<Story, Memory>
-    ensures { IfOk result (λ story. Tells calls stripes (reverse journal.now) story.commands.items story.reads.items story.failures.items story.listed.items) }
+    ensures { IfOk result (λ story. Tells calls stripes (reverse journal.now) story.commands.items story.reads.items story.failures.items story.tallies.items story.listed.items) }
 {
     let mut story = first_story(alloc, calls, stripes)?;
     for entry in journal.as_slice() {

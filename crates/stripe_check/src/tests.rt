@@ -1,9 +1,14 @@
 ghost use Rattle.std.specs.Prelude.{◌<◌, ◌^◌, length};
 
+mod sums;
+
 use super::*;
+use crate::brief::Tally;
+use crate::reply::push_reply;
+use crate::tallies::keep_tally;
 use array_journal::{At, Entry, Event, Journal, Kind, Names, Task, What, Why};
 use blocks_core::{Bytes, Memory, Owners};
-use host_scripts::{ScriptFault, parse};
+use host_scripts::{Action, Call, ScriptFault, parse};
 use sbc_cdbs::{Cdb, Command, encode};
 use sense_data::{Pointer, Sense};
 use std::test::Fail;
@@ -415,6 +420,254 @@ fn gathered_blocks_are_traced(rt: HostRuntime) -> Result<(), Fail> {
     assert_eq!(rt;
         traced.as_slice(),
         b"1 3 put 4 0.0 28000000000000000100 1 1111111111111111 1.1,1.2\n2 2 hold 5 0.0 52000000000000000100 0 - 1 -\n".as_slice()
+    );
+    Ok(())
+}
+
+// The line of call 7, of host B, that was told some bytes and has a tally of 3 and 1.
+fn says(
+    rt: &HostRuntime,
+    action: Action,
+    bytes: &[u8],
+    failure: Option<Failure>,
+    said: &[u8],
+) -> Result<bool, Memory> {
+    let mut text = Bytes::new(rt.alloc());
+    let call = Call { host: 1, action };
+    let tally = Tally { done: 3, left: 1 };
+    push_reply(&mut text, 7, &call, bytes, &failure, &tally)?;
+    Ok(text.as_slice() == said)
+}
+
+fn refused(why: Why) -> Option<Failure> {
+    Some(Failure::Refused { why })
+}
+
+fn raw(rt: &HostRuntime, code: u8) -> Result<Action, Memory> {
+    Ok(Action::Raw {
+        cdb: bytes(rt, &[code])?,
+        bytes: bytes(rt, &[])?,
+    })
+}
+
+fn illegal(asc: u8, byte: Option<u16>) -> Why {
+    Why::Illegal {
+        sense: Sense {
+            key: 5,
+            information: None,
+            specific: 0,
+            asc,
+            ascq: 0,
+            fru: 0,
+            pointer: byte.map(|byte| Pointer {
+                command: true,
+                bit: None,
+                byte,
+            }),
+        },
+    }
+}
+
+#[test]
+fn hosts_are_answered(rt: HostRuntime) -> Result<(), Fail> {
+    let read = Action::Read { lba: 0, count: 1 };
+    assert!(rt; says(&rt, read, &[0xab], None, b"7 B good ab\n")?);
+    let read = Action::Read { lba: 0, count: 1 };
+    assert!(rt;
+        says(
+            &rt,
+            read,
+            &[0xab],
+            refused(Why::Medium),
+            b"7 B check 3 11/00\n"
+        )?
+    );
+    let read = Action::Read { lba: 0, count: 1 };
+    assert!(rt;
+        says(
+            &rt,
+            read,
+            &[],
+            refused(Why::NotReady),
+            b"7 B check 2 04/00\n"
+        )?
+    );
+    let fill = Action::Fill {
+        lba: 0,
+        count: 1,
+        byte: 1,
+    };
+    assert!(rt; says(&rt, fill, &[], None, b"7 B good\n")?);
+    let fill = Action::Fill {
+        lba: 0,
+        count: 1,
+        byte: 1,
+    };
+    assert!(rt; says(&rt, fill, &[], refused(Why::Medium), b"7 B check 3 0C/00\n")?);
+    let fill = Action::Fill {
+        lba: 0,
+        count: 1,
+        byte: 1,
+    };
+    assert!(rt;
+        says(
+            &rt,
+            fill,
+            &[],
+            Some(Failure::Spoilt),
+            b"7 B check B 08/00\n"
+        )?
+    );
+    Ok(())
+}
+
+#[test]
+fn descriptors_are_answered(rt: HostRuntime) -> Result<(), Fail> {
+    assert!(rt; says(&rt, raw(&rt, 0x28)?, &[1], None, b"7 B good 01\n")?);
+    assert!(rt;
+        says(
+            &rt,
+            raw(&rt, 0x28)?,
+            &[],
+            refused(Why::Medium),
+            b"7 B check 3 11/00\n"
+        )?
+    );
+    assert!(rt;
+        says(
+            &rt,
+            raw(&rt, 0x2a)?,
+            &[],
+            refused(Why::Medium),
+            b"7 B check 3 0C/00\n"
+        )?
+    );
+    assert!(rt;
+        says(
+            &rt,
+            raw(&rt, 0x50)?,
+            &[],
+            refused(illegal(0x20, None)),
+            b"7 B check 5 20/00\n"
+        )?
+    );
+    assert!(rt;
+        says(
+            &rt,
+            raw(&rt, 0x28)?,
+            &[],
+            refused(illegal(0x24, Some(1))),
+            b"7 B check 5 24/00 byte 1\n"
+        )?
+    );
+    Ok(())
+}
+
+#[test]
+fn operators_are_answered(rt: HostRuntime) -> Result<(), Fail> {
+    let target = 0;
+    assert!(rt; says(&rt, Action::Lose { target }, &[], None, b"7 B done\n")?);
+    assert!(rt; says(&rt, Action::Reset { target }, &[], None, b"7 B done\n")?);
+    assert!(rt; says(&rt, Action::DropNext { target }, &[], None, b"7 B done\n")?);
+    assert!(rt; says(&rt, Action::Replace { target }, &[], None, b"7 B done\n")?);
+    assert!(rt;
+        says(
+            &rt,
+            Action::Replace { target },
+            &[],
+            refused(Why::NotLost),
+            b"7 B refused\n"
+        )?
+    );
+    assert!(rt;
+        says(
+            &rt,
+            Action::Rebuild { target },
+            &[],
+            refused(Why::Listed),
+            b"7 B done 3 1\n"
+        )?
+    );
+    assert!(rt;
+        says(
+            &rt,
+            Action::Resync,
+            &[],
+            refused(Why::Clean),
+            b"7 B done 3 1\n"
+        )?
+    );
+    Ok(())
+}
+
+// A unit that is present and a stripe that is clean aren't left as they are.
+#[test]
+fn refused_stripes_are_counted(rt: HostRuntime) -> Result<(), Fail> {
+    let mut tallies = [Tally { done: 0, left: 0 }; 2];
+    for (call, why) in [
+        (1, Why::Unfitted),
+        (1, Why::Present),
+        (2, Why::Listed),
+        (2, Why::Second),
+        (2, Why::Clean),
+        (2, Why::Absent),
+    ] {
+        let event = Event::Refuse {
+            call,
+            piece: 0,
+            why,
+        };
+        let entry = Entry {
+            stamp: 1,
+            lock: 0,
+            event,
+        };
+        keep_tally(&mut tallies, &[], &entry)?;
+    }
+    assert_eq!(rt; tallies[0], Tally { done: 0, left: 1 });
+    assert_eq!(rt; tallies[1], Tally { done: 0, left: 3 });
+    Ok(())
+}
+
+// One stripe is rebuilt for call 9.
+fn rebuild(rt: &HostRuntime, journal: &mut Journal) -> Result<(), Memory> {
+    let opened = Event::Open {
+        command: 0,
+        task: task(9, Kind::Rebuild, 0, bytes(rt, &[])?),
+    };
+    put(journal, 7, 0, opened)?;
+    let closed = Event::Close {
+        command: 0,
+        done: true,
+        names: names(rt, &[])?,
+        cause: None,
+        bytes: bytes(rt, &[])?,
+    };
+    put(journal, 8, 0, closed)
+}
+
+// Refusals of calls 2, 3, 8, 9 and 10.
+fn refuse_some(journal: &mut Journal) -> Result<(), Memory> {
+    refuse(journal, 4, 2, Why::NotReady)?;
+    refuse(journal, 5, 3, illegal(0x20, None))?;
+    refuse(journal, 6, 8, Why::NotLost)?;
+    refuse(journal, 9, 9, Why::Listed)?;
+    refuse(journal, 10, 9, Why::Present)?;
+    refuse(journal, 11, 10, Why::Clean)
+}
+
+#[test]
+fn all_calls_are_answered(rt: HostRuntime) -> Result<(), Fail> {
+    let text =
+        b"xorscript 1\ntargets 3\nblock 8\nunit 1\nstripes 2\nbuffer 4\nmaxima 0 0 0\nmode supervised\nseed 1\nhosts 2\nA read 0 1\nA fill 0 1 11\nA cdb 50 -\nB lose 0\nB reset 0\nB drop 0\nB replace 0\nB replace 1\nA rebuild 0\nA resync\n";
+    let mut journal = Journal::new(rt.alloc());
+    read_block(&rt, &mut journal, 1, 1, 0, &DATA)?;
+    refuse_some(&mut journal)?;
+    rebuild(&rt, &mut journal)?;
+    let said = reported(&rt, text, &journal).ok().ok_or("a report")?;
+    assert_eq!(rt;
+        said.as_slice(),
+        b"1 A good 0102030405060708\n2 A check 2 04/00\n3 A check 5 20/00\n4 B done\n5 B done\n6 B done\n7 B done\n8 B refused\n9 A done 1 1\n10 A done 0 0\nentries 11\nstripes 2 zero 2 listed 0 absent 0\n".as_slice()
     );
     Ok(())
 }

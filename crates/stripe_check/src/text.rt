@@ -8,7 +8,7 @@ ghost use Rattle.stripe_check.specs.Texts.{upper_nibble, upper_byte, counted};
 use blocks_core::{Bytes, Memory};
 use itoa::Buffer;
 
-/// A number in decimal.
+/// A number in decimal, at the end of a text.
 pub fn push_number(text: &mut Bytes, number: u64) -> Result<(), Memory>
     ensures { OnOk result (text.new ≡ text.old ++ decimal number) }
 {
@@ -16,7 +16,7 @@ pub fn push_number(text: &mut Bytes, number: u64) -> Result<(), Memory>
     text.push_slice(buffer.format(number).as_bytes())
 }
 
-/// A word, a space and a number.
+/// A word, a space and a number in decimal, at the end of a text.
 pub fn push_counted(text: &mut Bytes, word: &[u8], number: u64) -> Result<(), Memory>
     ensures { OnOk result (text.new ≡ text.old ++ counted word.now number []) }
 {
@@ -37,7 +37,7 @@ fn nibble(number: u8) -> u8
     }
 }
 
-/// Each byte as two digits.
+/// Each byte as two lower-case hexadecimal digits, at the end of a text.
 pub fn push_hex(text: &mut Bytes, bytes: &[u8]) -> Result<(), Memory>
     ensures { OnOk result (text.new ≡ text.old ++ hex bytes.now) }
 {
@@ -48,7 +48,7 @@ pub fn push_hex(text: &mut Bytes, bytes: &[u8]) -> Result<(), Memory>
     Ok(())
 }
 
-/// One hexadecimal digit, in upper case.
+/// The character of one hexadecimal digit, in upper case.
 pub fn upper_nibble(number: u8) -> u8
     requires { number < 16 }
     ensures { result ≡ upper_nibble number }
@@ -60,7 +60,7 @@ pub fn upper_nibble(number: u8) -> u8
     }
 }
 
-/// A byte as two of them.
+/// A byte as two upper-case hexadecimal digits, at the end of a text.
 pub fn push_upper_byte(text: &mut Bytes, byte: u8) -> Result<(), Memory>
     ensures { OnOk result (text.new ≡ text.old ++ upper_byte byte) }
 {
