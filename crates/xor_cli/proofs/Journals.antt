@@ -1,17 +1,17 @@
 -- A journal that a controller appended to, seen from its newest entry.
-use Rattle.std.proofs.Common.{◌≡◌, ℕ, suc, ◌+◌, ◌*◌, Bool, true, false, List, [], ◌∷◌, ◌++◌, length, reverse, None, refl, ap, sym, ◌∙◌, arith, length-append}
+use Rattle.std.proofs.Common.{◌≡◌, ℕ, ◌+◌, true, List, [], ◌∷◌, length, reverse, None, ap, sym, ◌∙◌, arith, length-append}
 use Rattle.std.proofs.lemmas.List.{reverse-append, length-reverse}
 use Rattle.sbc_cdbs.specs.declared.descriptor.Cdb.{Cdb}
 use Rattle.array_journal.specs.declared.at.At.{At}
 use Rattle.array_journal.specs.declared.entry.Entry.{Entry}
 use Rattle.array_journal.specs.declared.event.Event.{Event}
-use Rattle.array_journal.specs.declared.event.Event.TheVariants.{Fetch, Diff, Take, Fold, Open, Close}
+use Rattle.array_journal.specs.declared.event.Event.TheVariants.{Fetch, Open, Close}
 use Rattle.array_journal.specs.declared.setting.Setting.{Setting}
 use Rattle.array_journal.specs.declared.task.Task.{Task}
 use Rattle.array_journal.specs.Commands.{open_count}
 use Rattle.array_journal.specs.Acts.{task_bytes}
 use Rattle.array_journal.specs.Media.{rows_on}
-use Rattle.array_journal.specs.Serving.{next_entry, next_name, read_entries, update_entries, update_delta, opened_name}
+use Rattle.array_journal.specs.Serving.{next_name, read_entries, opened_name}
 use Rattle.xor_cli.specs.Serving.{next_at, with_next}
 
 -- the newest entry first

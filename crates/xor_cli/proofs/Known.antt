@@ -4,7 +4,7 @@ use Rattle.std.proofs.lemmas.List.{take_all}
 use Rattle.std.proofs.Math.Seq.{take-add, take-append_seam}
 use Rattle.std.specs.Prelude.{IfSome, OnErr}
 use Rattle.std.specs.Io.KnownBytes.{Appends, Consumes, IsAtEnd}
-use Rattle.xor_cli.specs.Outside.{HasRisen, AppendsPrefix}
+use Rattle.outer_io.specs.Outside.{HasRisen, AppendsPrefix}
 
 -- nothing was taken yet
 pub Consumes-none : (a : Option (List ℕ)) → Consumes a a []

@@ -1,6 +1,15 @@
 pub mod Known
+pub mod Digits
+pub mod WordLaws
+pub mod Answering
+pub mod Pieces
+pub mod Inputs
+pub mod Laters
 pub mod Work
 pub mod Ends
+pub mod OneJournal
+pub mod Appends
+pub mod Starts
 pub mod Journals
 pub mod Updates
 pub mod ServedReads
@@ -8,4 +17,8 @@ pub mod TaskRanges
 pub mod ServedUpdates
 pub mod UpdateMade
 pub mod FirstCalls
-pub mod CallCount
+pub mod Going
+pub mod OnePieces
+pub mod Answered
+pub mod AskedRuns
+pub mod CleanRuns

@@ -1,32 +1,28 @@
 -- A controller that served an update.
-use Rattle.std.specs.Prelude.{◌==◌}
-use Rattle.std.proofs.Common.{◌≡◌, ◌≢◌, ℕ, suc, ◌+◌, ◌*◌, ◌<◌, ◌≤◌, Bool, true, false, List, [], ◌∷◌, ◌++◌, length, reverse, None, refl, ap, sym, ◌∙◌, subst, arith, eqb, append_assoc, add-one, inl, inr}
-use Rattle.std.proofs.lemmas.Bool.{eq-eqb, cases_eq}
+use Rattle.std.proofs.Common.{◌≡◌, ◌≢◌, ℕ, ◌+◌, ◌*◌, ◌<◌, List, [], ◌∷◌, length, reverse, refl, ap, sym, ◌∙◌, subst, arith, add-one, inl, inr}
+use Rattle.std.proofs.lemmas.Bool.{cases_eq}
 use Rattle.blocks_core.specs.Xor.{xor}
 use Rattle.sbc_cdbs.specs.declared.descriptor.Cdb.{Cdb}
 use Rattle.sbc_cdbs.specs.Cdbs.{cdb_bytes, Spells}
 use Rattle.array_journal.specs.declared.at.At.{At}
 use Rattle.array_journal.specs.declared.entry.Entry.{Entry}
-use Rattle.array_journal.specs.declared.event.Event.TheVariants.{Diff, Take, Fold, Open, Close}
 use Rattle.array_journal.specs.declared.setting.Setting.{Setting}
 use Rattle.array_journal.specs.declared.task.Task.{Task}
 use Rattle.array_journal.specs.declared.task.Kind.TheVariants.{Update}
 use Rattle.array_journal.specs.Lists.{slice, put}
 use Rattle.array_journal.specs.Commands.{open_count}
-use Rattle.array_journal.specs.Acts.{Diffs, Takes, Folds, cdb_of, task_bytes}
-use Rattle.array_journal.specs.Media.{media, rows_on}
+use Rattle.array_journal.specs.Acts.{Diffs, Takes, Folds, cdb_of}
+use Rattle.array_journal.specs.Media.{media}
 use Rattle.array_journal.specs.Calm.{Calm}
-use Rattle.array_journal.specs.May.{IsTask}
 use Rattle.array_journal.specs.Serving.{update_entries, update_delta}
 use Rattle.array_journal.proofs.UpdateSteps.{diff-medium, diff-other, fold-medium, fold-other, close-media}
 use Rattle.array_journal.proofs.UpdateRuns.{CanUpdate, update-task, length-update_delta}
 use Rattle.array_journal.proofs.UpdateQuiet.{update-count}
 use Rattle.array_journal.proofs.LayoutLaws.{parity_of-below}
 use Rattle.array_journal.proofs.CalmServed.{calm-update}
-use Rattle.xor_cli.specs.declared.array.controller.Controller.{Controller}
+use Rattle.xor_cli.specs.Arrays.{Array}
 use Rattle.xor_cli.specs.Disks.{Disk, disk_of}
-use Rattle.xor_cli.specs.Serving.{next_at, with_next}
-use Rattle.xor_cli.specs.Asked.{IsAnswer}
+use Rattle.xor_cli.specs.Serving.{next_at}
 use Rattle.xor_cli.specs.Rest.{HasMedia, IsRest, IsAtRest, IsServable, IsServed}
 use Rattle.xor_cli.proofs.Updates.{opened_journal, diffed_journal, taken_journal, folded_journal, closed_journal, update-appended, updated_disks, length-updated, updated-target, updated-other, updated-parity}
 
@@ -60,47 +56,8 @@ updated-media s disks past task diff take fold has can below i h =
       ]
     ]
 
--- the entries of an update by themselves
-update-own : (j0 j1 j2 j3 j4 j5 : List Entry) (task : Task) (diff take fold : Cdb) (c : ℕ) (opened differed taken folded : At) (delta : List ℕ) →
-    j1 ≡ opened_journal j0 c task → j2 ≡ diffed_journal j1 c opened task diff → j3 ≡ taken_journal j2 c opened task take delta →
-    j4 ≡ folded_journal j3 c opened task fold delta taken → j5 ≡ closed_journal j4 c (differed ∷ taken ∷ folded ∷ []) →
-    (own : List Entry) × ((j5 ≡ j0 ++ own) × IsAnswer task own)
-update-own j0 j1 j2 j3 j4 j5 task diff take fold c opened differed taken folded delta h1 h2 h3 h4 h5 =
-    let e1 : Entry = record { stamp = length j0 + 1; lock = 0; event = Open c task } in
-    let e2 : Entry = record { stamp = length j1 + 1; lock = task.target + 1; event = Diff c opened diff task.row task.bytes false false } in
-    let e3 : Entry = record { stamp = length j2 + 1; lock = task.target + 1; event = Take c opened take task.row delta } in
-    let e4 : Entry = record { stamp = length j3 + 1; lock = task.parity + 1; event = Fold c opened fold task.row delta (taken ∷ []) } in
-    let e5 : Entry = record { stamp = length j4 + 1; lock = 0; event = Close c true (differed ∷ taken ∷ folded ∷ []) None [] } in
-    let own_is : (c == c) ≡ true = eq-eqb c c refl in
-    let joined : j5 ≡ (((((j0 ++ (e1 ∷ [])) ++ (e2 ∷ [])) ++ (e3 ∷ [])) ++ (e4 ∷ [])) ++ (e5 ∷ [])) =
-    h5 ∙ ap (λ (j : List Entry). j ++ (e5 ∷ [])) (h4 ∙ ap (λ (j : List Entry). j ++ (e4 ∷ [])) (h3 ∙ ap (λ (j : List Entry). j ++ (e3 ∷ []))
-    (h2 ∙ ap (λ (j : List Entry). j ++ (e2 ∷ [])) h1))) in (
-      e1 ∷ e2 ∷ e3 ∷ e4 ∷ e5 ∷ [],
-      (
-        joined ∙ simp append_assoc,
-        (
-          c,
-          (
-            e1,
-            (
-              e2 ∷ e3 ∷ e4 ∷ [],
-              (
-                e5,
-                record {
-                  parts = refl;
-                  opened = refl;
-                  own = (own_is, (own_is, (own_is, tt)));
-                  done = own_is;
-                },
-              ),
-            ),
-          ),
-        ),
-      ),
-    )
-
 -- the steps of a controller are those of an update
-pub record IsUpdated (old new : Controller) (task : Task) (diff take fold : Cdb) (j1 j2 j3 j4 : List Entry) (differed taken folded : At) (delta : List ℕ) : Type 0 where
+pub record IsUpdated (old new : Array) (task : Task) (diff take fold : Cdb) (j1 j2 j3 j4 : List Entry) (differed taken folded : At) (delta : List ℕ) : Type 0 where
   pub setting : new.setting ≡ old.setting
   pub commands : new.commands ≡ old.commands + 1
   pub opening : j1 ≡ opened_journal old.journal old.commands task
@@ -112,7 +69,7 @@ pub record IsUpdated (old new : Controller) (task : Task) (diff take fold : Cdb)
   pub taken_at : taken ≡ next_at j2 (task.target + 1)
   pub folded_at : folded ≡ next_at j3 (task.parity + 1)
   pub delta_is : delta ≡ update_delta old.setting (reverse old.journal) task
-  pub disks : new.targets.items ≡ updated_disks old.targets.items task.target task.parity (task.row * old.setting.geometry.block) task.bytes delta
+  pub disks : new.disks ≡ updated_disks old.disks task.target task.parity (task.row * old.setting.geometry.block) task.bytes delta
 
 pub record AreSpelt (s : Setting) (task : Task) (diff take fold : Cdb) : Type 0 where
   pub diffs : Spells (cdb_bytes diff) (cdb_of s task 0 Diffs)
@@ -120,7 +77,7 @@ pub record AreSpelt (s : Setting) (task : Task) (diff take fold : Cdb) : Type 0 
   pub folds : Spells (cdb_bytes fold) (cdb_of s task 0 Folds)
 
 -- the controller is at rest again
-pub update-served : (old new : Controller) (task : Task) (diff take fold : Cdb) (j1 j2 j3 j4 : List Entry) (differed taken folded : At) (delta : List ℕ) →
+pub update-served : (old new : Array) (task : Task) (diff take fold : Cdb) (j1 j2 j3 j4 : List Entry) (differed taken folded : At) (delta : List ℕ) →
     IsAtRest old → IsServable old.setting task → task.kind ≡ Update → AreSpelt old.setting task diff take fold →
     IsUpdated old new task diff take fold j1 j2 j3 j4 differed taken folded delta → IsServed old new task
 update-served old new task diff take fold j1 j2 j3 j4 differed taken folded delta rest can kind spelt u =
@@ -136,24 +93,23 @@ update-served old new task diff take fold j1 j2 j3 j4 differed taken folded delt
     calm-update s past task diff take fold rest.setting rest.supervised rest.calm can.sound kind can.fits spelt.diffs spelt.takes spelt.folds in
     let counted : old.commands + 1 ≡ open_count (update_entries s past task diff take fold) =
     ap (λ n. n + 1) rest.counted ∙ add-one (open_count past) ∙ sym (update-count s past task diff take fold) in
-    let has : HasMedia s (updated_disks old.targets.items task.target task.parity (task.row * s.geometry.block) task.bytes (update_delta s past task)) (update_entries s past task diff take fold) = record {
-      count = length-updated old.targets.items task.target task.parity (task.row * s.geometry.block) task.bytes (update_delta s past task) ∙ rest.targets.count;
-      media = updated-media s old.targets.items past task diff take fold rest.targets able below;
+    let has : HasMedia s (updated_disks old.disks task.target task.parity (task.row * s.geometry.block) task.bytes (update_delta s past task)) (update_entries s past task diff take fold) = record {
+      count = length-updated old.disks task.target task.parity (task.row * s.geometry.block) task.bytes (update_delta s past task) ∙ rest.targets.count;
+      media = updated-media s old.disks past task diff take fold rest.targets able below;
     } in
     let C : Setting → List Entry → Type 0 = λ t es. Calm t es in
     let H : Setting → List Disk → List Entry → Type 0 = λ t ds es. HasMedia t ds es in
-    let disks : new.targets.items ≡ updated_disks old.targets.items task.target task.parity (task.row * s.geometry.block) task.bytes (update_delta s past task) =
-    u.disks ∙ ap (updated_disks old.targets.items task.target task.parity (task.row * s.geometry.block) task.bytes) u.delta_is in
-    let resting : IsRest s new.commands new.journal new.targets.items = record {
+    let disks : new.disks ≡ updated_disks old.disks task.target task.parity (task.row * s.geometry.block) task.bytes (update_delta s past task) =
+    u.disks ∙ ap (updated_disks old.disks task.target task.parity (task.row * s.geometry.block) task.bytes) u.delta_is in
+    let resting : IsRest s new.commands new.journal new.disks = record {
       setting = rest.setting;
       supervised = rest.supervised;
       calm = subst (C s) (sym entries) calm;
       counted = u.commands ∙ counted ∙ ap open_count (sym entries);
-      targets = subst (H s new.targets.items) (sym entries) (subst (λ (ds : List Disk). HasMedia s ds (update_entries s past task diff take fold)) (sym disks) has);
+      targets = subst (H s new.disks) (sym entries) (subst (λ (ds : List Disk). HasMedia s ds (update_entries s past task diff take fold)) (sym disks) has);
     } in
     record {
-      rest = subst (λ (t : Setting). IsRest t new.commands new.journal new.targets.items) (sym u.setting) resting;
+      rest = subst (λ (t : Setting). IsRest t new.commands new.journal new.disks) (sym u.setting) resting;
       setting = u.setting;
-      answered = update-own old.journal j1 j2 j3 j4 new.journal task diff take fold old.commands (next_at old.journal 0) differed taken folded delta
-          u.opening u.diffing u.taking u.folding u.closing;
+      answered = inr (diff, (take, (fold, entries)));
     }

@@ -1,5 +1,5 @@
 -- A sound task's rows are on the media and fit the fields of a CDB.
-use Rattle.std.proofs.Common.{◌≡◌, ℕ, ◌+◌, ◌*◌, ◌^◌, ◌<◌, ◌≤◌, List, length, reverse, refl, ap, sym, ◌∙◌, subst, arith}
+use Rattle.std.proofs.Common.{◌≡◌, ℕ, ◌+◌, ◌*◌, ◌^◌, ◌<◌, ◌≤◌, length, ap, ◌∙◌, arith}
 use Rattle.std.proofs.Math.Nat.{mul-le-mul}
 use Rattle.stripe_layout.specs.Layout.{rows_of}
 use Rattle.array_journal.specs.declared.setting.Setting.{Setting}
@@ -7,7 +7,7 @@ use Rattle.array_journal.specs.declared.task.Task.{Task}
 use Rattle.array_journal.specs.May.{IsTask}
 use Rattle.array_journal.specs.Run.{IsSetting}
 use Rattle.array_journal.proofs.TaskPlaces.{rows-fit, rows-fit_bytes}
-use Rattle.xor_cli.specs.declared.array.controller.Controller.{Controller}
+use Rattle.xor_cli.specs.Arrays.{Array}
 use Rattle.xor_cli.specs.Disks.{disk_of, IsOnDisk}
 use Rattle.xor_cli.specs.Rest.{IsAtRest}
 
@@ -24,9 +24,9 @@ task-fits s task setting sound =
     (omega (arith, rows-fit s task sound), omega (arith, setting.array.most_unit))
 
 -- a task's rows are on the medium of each target of a controller at rest
-pub rows-on_disk : (old : Controller) (task : Task) (i : ℕ) → IsAtRest old → IsTask old.setting task → i < old.setting.geometry.targets →
-    IsOnDisk old.targets.items i (task.row * old.setting.geometry.block) (task.count * old.setting.geometry.block)
+pub rows-on_disk : (old : Array) (task : Task) (i : ℕ) → IsAtRest old → IsTask old.setting task → i < old.setting.geometry.targets →
+    IsOnDisk old.disks i (task.row * old.setting.geometry.block) (task.count * old.setting.geometry.block)
 rows-on_disk old task i rest sound below =
-    let size : length (disk_of old.targets.items i).medium ≡ rows_of old.setting.geometry * old.setting.geometry.block =
+    let size : length (disk_of old.disks i).medium ≡ rows_of old.setting.geometry * old.setting.geometry.block =
     ap length (rest.targets.media i below) ∙ rest.calm.quiet.media_size i in
     (omega (arith, rest.targets.count), omega (arith, rows-fit_bytes old.setting task sound))

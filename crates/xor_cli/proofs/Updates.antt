@@ -1,17 +1,15 @@
 -- The entries that a controller appends for an update, and what becomes of its targets.
-use Rattle.std.proofs.Common.{◌≡◌, ◌≢◌, ℕ, suc, ◌+◌, ◌*◌, ◌<◌, ◌≤◌, Bool, true, false, List, [], ◌∷◌, ◌++◌, length, reverse, None, refl, ap, sym, ◌∙◌, subst, arith, append_assoc, add-one, get_or, set, get_or-set_same, get_or-set_other}
+use Rattle.std.proofs.Common.{◌≡◌, ◌≢◌, ℕ, ◌+◌, ◌<◌, true, false, List, [], ◌∷◌, length, reverse, None, ap, sym, ◌∙◌, arith, set, get_or-set_same, get_or-set_other}
 use Rattle.std.proofs.lemmas.List.{length-reverse, length-set}
-use Rattle.std.proofs.lemmas.Bool.{eq-eqb}
 use Rattle.blocks_core.specs.Xor.{xor}
 use Rattle.sbc_cdbs.specs.declared.descriptor.Cdb.{Cdb}
 use Rattle.array_journal.specs.declared.at.At.{At}
 use Rattle.array_journal.specs.declared.entry.Entry.{Entry}
-use Rattle.array_journal.specs.declared.event.Event.{Event}
 use Rattle.array_journal.specs.declared.event.Event.TheVariants.{Diff, Take, Fold, Open, Close}
 use Rattle.array_journal.specs.declared.setting.Setting.{Setting}
 use Rattle.array_journal.specs.declared.task.Task.{Task}
 use Rattle.array_journal.specs.Commands.{open_count}
-use Rattle.array_journal.specs.Serving.{update_entries, update_delta, opened_name, next_name}
+use Rattle.array_journal.specs.Serving.{update_entries, update_delta}
 use Rattle.array_journal.specs.Lists.{slice, put}
 use Rattle.xor_cli.specs.Disks.{Disk, disk_of, with_diff, with_take, with_fold}
 use Rattle.xor_cli.specs.Serving.{next_at, with_next}

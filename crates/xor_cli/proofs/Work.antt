@@ -1,53 +1,110 @@
--- From what was read to what the source had left.
-use Rattle.std.proofs.Common.{◌≡◌, ℕ, ◌+◌, ◌≤◌, List, length, take, ap, subst, ◌∙◌, inl, inr, length-take, arith, Option, Some, None}
+-- From what was read to what the source had left, and from what stops a part to what stops the whole.
+use Rattle.std.proofs.Common.{◌≡◌, ℕ, ◌+◌, ◌≤◌, Bool, List, length, take, refl, ap, sym, subst, ◌∙◌, inl, inr, length-take, arith, Option, Some, None}
 use Rattle.std.proofs.lemmas.List.{take_all}
-use Rattle.std.proofs.lemmas.Bool.{cases_lt}
 use Rattle.std.specs.Prelude.{IfSome}
 use Rattle.host_scripts.specs.declared.script.Script.{Script}
-use Rattle.host_scripts.specs.Scripts.{SpellsFirst}
+use Rattle.host_scripts.specs.declared.script.Cause.{Cause}
+use Rattle.host_scripts.specs.declared.script.Cause.TheVariants as causes
+use Rattle.host_scripts.specs.Limits.{limit_of}
+use Rattle.host_scripts.specs.Refusals.{IsRefusal}
 use Rattle.xor_cli.specs.declared.endings.Stop.{Stop}
-use Rattle.xor_cli.specs.declared.endings.Stop.TheVariants.{Usage, ReadFault, Refused, Memory}
-use Rattle.xor_cli.specs.Words.{Spells}
+use Rattle.xor_cli.specs.declared.endings.Stop.TheVariants.{Usage, ReadFault, Refused, Exceeded, Memory}
+use Rattle.xor_cli.specs.declared.decoding.faults.Fault.{Fault}
+use Rattle.xor_cli.specs.declared.decoding.values.Format.{Format}
+use Rattle.xor_cli.specs.declared.decoding.values.Value.{Value}
+use Rattle.xor_cli.specs.declared.refusals.Reason.{Reason}
+use Rattle.xor_cli.specs.declared.refusals.Refusal.{Refusal}
+use Rattle.xor_cli.specs.declared.refusals.Excess.{Excess}
+use Rattle.xor_cli.specs.declared.refusals.Excess.TheVariants as excesses
 use Rattle.xor_cli.specs.declared.words.Command.TheVariants.{Step}
-use Rattle.xor_cli.specs.Endings.{IsAccepted, IsRefused, input_limit}
-use Rattle.xor_cli.specs.Statuses.{StopsFor, StopsStep, StopsRun}
+use Rattle.xor_cli.specs.Decoding.{IsValue, IsFault}
+use Rattle.xor_cli.specs.RefusalTexts.{reason_of, refusal_line}
+use Rattle.xor_cli.specs.Words.{Spells}
+use Rattle.xor_cli.specs.Later.{first_later}
+use Rattle.xor_cli.specs.Inputs.{IsSpelt, IsAccepted, IsRefused, IsExcess, input_limit}
+use Rattle.xor_cli.specs.Statuses.{StopsFor, StopsStep, StopsRun, StopsScript, IsStopWith, later_refusal}
+use Rattle.xor_cli.proofs.Inputs.{refused-bound}
 
--- a beginning one longer than n that has no more than n is the whole
-pub take-short : (n : ℕ) (xs : List ℕ) → length (take (n + 1) xs) ≤ n → take (n + 1) xs ≡ xs
-take-short n xs h = take_all (n + 1) xs (omega (arith, length-take (n + 1) xs))
+-- ---- from what was read to what the source had left
 
--- bytes that are accepted are all that the source had
+-- what holds of bytes that were read, and of no input that is too long, holds of all that the source had
+left-whole : (left : Option (List ℕ)) (bytes : List ℕ) (P : List ℕ → Type 0) → length bytes ≤ input_limit → IfSome left (λ all. bytes ≡ take (input_limit + 1) all) → P bytes → IfSome left P
+left-whole None bytes P bound e p = tt
+left-whole (Some all) bytes P bound e p =
+    let n : length bytes ≡ length (take (input_limit + 1) all) = ap length e in
+    let short : length all ≤ input_limit + 1 = omega (arith, length-take (input_limit + 1) all, n, bound) in
+    subst P (e ∙ take_all (input_limit + 1) all short) p
+
 pub accepted-left : (left : Option (List ℕ)) (bytes : List ℕ) (script : Script) → IfSome left (λ all. bytes ≡ take (input_limit + 1) all) → IsAccepted bytes script → IfSome left (λ all. IsAccepted all script)
-accepted-left None bytes script e accepted = tt
-accepted-left (Some all) bytes script e accepted =
-    let short : length (take (input_limit + 1) all) ≤ input_limit = subst (λ b. length b ≤ input_limit) e accepted.0 in
-    let whole : bytes ≡ all = e ∙ take-short input_limit all short in
-    let P : List ℕ → Type 0 = λ b. IsAccepted b script in
-    subst P whole accepted
+accepted-left left bytes script e accepted = left-whole left bytes (λ b. IsAccepted b script) accepted.0.0 e accepted
 
--- where the bytes that were read are refused, so is all that the source had
-pub refused-left : (left : Option (List ℕ)) (bytes : List ℕ) → IfSome left (λ all. bytes ≡ take (input_limit + 1) all) → IsRefused bytes → IfSome left IsRefused
-refused-left None bytes e refused = tt
-refused-left (Some all) bytes e (inl long) =
-    inl (let l : length bytes ≡ length (take (input_limit + 1) all) = ap length e in omega (arith, length-take (input_limit + 1) all))
-refused-left (Some all) bytes e (inr none) = elim (cases_lt input_limit (length all)) [
-  | inl long ↦ inl long
-  | inr short ↦
-      let whole : bytes ≡ all = e ∙ take_all (input_limit + 1) all (omega arith) in
-      let P : List ℕ → Type 0 = λ b. (script : Script) → SpellsFirst b script → ⊥ in
-      inr (subst P whole none)
-]
+refused-left : (left : Option (List ℕ)) (bytes : List ℕ) (refusal : Refusal) → IfSome left (λ all. bytes ≡ take (input_limit + 1) all) → IsRefused bytes refusal → IfSome left (λ all. IsRefused all refusal)
+refused-left left bytes refusal e refused =
+    left-whole left bytes (λ b. IsRefused b refusal) (refused-bound bytes refusal.line refusal.reason refused) e refused
+
+excess-left : (left : Option (List ℕ)) (bytes : List ℕ) (excess : Excess) → IfSome left (λ all. bytes ≡ take (input_limit + 1) all) → IsExcess bytes excess → IfSome left (λ all. IsExcess all excess)
+excess-left None bytes excess e is = tt
+excess-left (Some all) bytes excesses.Input e is = let n : length bytes ≡ length (take (input_limit + 1) all) = ap length e in omega (arith, length-take (input_limit + 1) all, n, is)
+excess-left (Some all) bytes (excesses.Script limit) e is = left-whole (Some all) bytes (λ b. IsExcess b (excesses.Script limit)) is.1.0.0 e is
 
 -- what stops a run of the bytes that were read stops a run of the source
 pub stops-step : (left : Option (List ℕ)) (bytes : List ℕ) (before after : ℕ) (stop : Stop) → IfSome left (λ all. bytes ≡ take (input_limit + 1) all) → StopsRun bytes stop → StopsStep left before after stop
 stops-step left bytes before after Usage e s = absurd s
 stops-step left bytes before after ReadFault e s = absurd s
-stops-step left bytes before after Refused e s = refused-left left bytes e s
+stops-step left bytes before after (Refused note) e s = (s.0, (refused-left left bytes s.0 e s.1.0, s.1.1))
+stops-step left bytes before after (Exceeded excess) e s = excess-left left bytes excess e s
 stops-step left bytes before after Memory e s = tt
 
 -- what stops a run of the source stops the command
-pub stops-for : (words : List (List ℕ)) (left : Option (List ℕ)) (before after : ℕ) (stop : Stop) → Spells words Step → StopsStep left before after stop → StopsFor words left before after stop
-stops-for words left before after Usage w s = absurd s
-stops-for words left before after ReadFault w s = (w, s)
-stops-for words left before after Refused w s = (w, s)
-stops-for words left before after Memory w s = w
+pub stops-for : (words : List (List ℕ)) (traced : Bool) (left : Option (List ℕ)) (before after : ℕ) (stop : Stop) → Spells words (Step traced) → StopsStep left before after stop → StopsFor words left before after stop
+stops-for words traced left before after Usage w s = absurd s
+stops-for words traced left before after ReadFault w s = ((traced, w), s)
+stops-for words traced left before after (Refused note) w s = inl (s.0, ((traced, w), s.1.0, s.1.1))
+stops-for words traced left before after (Exceeded excess) w s = ((traced, w), s)
+stops-for words traced left before after Memory w s = (Step traced, w)
+
+-- ---- what stops a part
+
+-- a refusal of a line stops a run of these bytes
+unspelt-refused : (input : List ℕ) (number : ℕ) (cause : Cause) → length input ≤ input_limit → IsRefusal input number cause → IsRefused input (record { line = number; reason = reason_of cause })
+unspelt-refused input number causes.Form bound r = (bound, r)
+unspelt-refused input number causes.Range bound r = (bound, r)
+unspelt-refused input number causes.Size bound r = (bound, r)
+
+pub stop-unspelt : (input : List ℕ) (number other : ℕ) (cause : Cause) (reason : Reason) (stop : Stop) → length input ≤ input_limit → IsRefusal input number cause → other ≡ number → reason ≡ reason_of cause → IsStopWith (refusal_line (record { line = other; reason = reason })) stop → StopsRun input stop
+stop-unspelt input number other cause reason stop bound r n c (inl e) =
+    let refusal : Refusal = record { line = number; reason = reason_of cause } in
+    let P : ℕ → Type 0 = λ m. IsRefused input (record { line = m; reason = reason_of cause }) in
+    let Q : Reason → Type 0 = λ x. IsRefused input (record { line = other; reason = x }) in
+    let is : IsRefused input (record { line = other; reason = reason }) = subst Q (sym c) (subst P (sym n) (unspelt-refused input number cause bound r)) in
+    subst (StopsRun input) (sym e) (record { line = other; reason = reason }, (is, refl))
+stop-unspelt input number other cause reason stop bound r n c (inr e) = subst (StopsRun input) (sym e) tt
+
+-- so does a line that can't be run yet
+pub stop-later : (script : Script) (number : ℕ) (stop : Stop) → limit_of script ≡ None → first_later script ≡ Some number → IsStopWith (refusal_line (later_refusal number)) stop → StopsScript script stop
+stop-later script number stop over later (inl e) = subst (StopsScript script) (sym e) (number, (over, later, refl))
+stop-later script number stop over later (inr e) = subst (StopsScript script) (sym e) tt
+
+-- what stops a script stops its bytes
+pub stop-script : (input : List ℕ) (script : Script) (stop : Stop) → IsSpelt input script → StopsScript script stop → StopsRun input stop
+stop-script input script Usage spelt s = absurd s
+stop-script input script ReadFault spelt s = absurd s
+stop-script input script (Refused note) spelt s = (later_refusal s.0, ((script, (spelt, s.1.0, s.1.1)), s.1.2))
+stop-script input script (Exceeded excess) spelt s =
+    let P : Excess → Type 0 = λ x. IsExcess input x in subst P (sym s.1.1) (script, (spelt, s.1.0))
+stop-script input script Memory spelt s = tt
+
+-- ---- decoding
+
+-- a value of bytes in a format is one of the same bytes in the same format
+pub value-moved : (f g : Format) (a b c : List ℕ) (value : Value) → (f ≡ g) × (a ≡ b) → c ≡ b → IsValue f a value → IsValue g c value
+value-moved f g a b c value same slice is =
+    let P : List ℕ → Type 0 = λ x. IsValue f x value in
+    let Q : Format → Type 0 = λ x. IsValue x c value in
+    subst Q same.0 (subst P (same.1 ∙ sym slice) is)
+
+pub fault-moved : (f g : Format) (a b c : List ℕ) (fault : Fault) → (f ≡ g) × (a ≡ b) → c ≡ b → IsFault f a fault → IsFault g c fault
+fault-moved f g a b c fault same slice is =
+    let P : List ℕ → Type 0 = λ x. IsFault f x fault in
+    let Q : Format → Type 0 = λ x. IsFault x c fault in
+    subst Q same.0 (subst P (same.1 ∙ sym slice) is)

@@ -1,11 +1,17 @@
 -- What a target has: the bytes of its medium, and the delta that it holds.
-use Rattle.std.specs.Prelude.{ℕ, ◌+◌, ◌*◌, ◌<◌, ◌≤◌, List, [], length, slice_index_or, slice_set}
+use Rattle.std.specs.Prelude.{ℕ, ◌+◌, ◌<◌, ◌≤◌, List, [], length, slice_index_or, slice_set}
 use Rattle.blocks_core.specs.Xor.{xor}
+use Rattle.array_journal.specs.declared.entry.Entry.{Entry}
 use Rattle.array_journal.specs.Lists.{slice, put}
 
 pub record Disk : Type 0 where
   pub medium : List ℕ
   pub held : List ℕ
+
+-- a target: its disk, and the entries of its lock
+pub record Lane : Type 0 where
+  pub disk : Disk
+  pub entries : List Entry
 
 -- the disk at a target
 abbrev pub disk_of : List Disk → ℕ → Disk

@@ -1,13 +1,22 @@
 -- How a command ends, and why.
-use Rattle.std.specs.Prelude.{ℕ, ◌≡◌, ◌≤◌, ◌<◌, ◌⊎◌, ◌==◌, List, [], ◌∷◌, ◌++◌, length, codes, Option, IfSome, if◌then◌else◌}
+use Rattle.std.specs.Prelude.{ℕ, ◌≡◌, ◌⊎◌, Bool, true, false, List, [], ◌∷◌, ◌++◌, Option, IfSome}
 use Rattle.std.specs.Io.KnownBytes.{Appends}
 use Rattle.host_scripts.specs.declared.script.Script.{Script}
-use Rattle.host_scripts.specs.Scripts.{IsFirst, SpellsFirst}
 use Rattle.array_journal.specs.declared.entry.Entry.{Entry}
-use Rattle.xor_cli.specs.declared.words.Command.TheVariants.{Step}
-use Rattle.xor_cli.specs.Outside.{AppendsPrefix}
-use Rattle.xor_cli.specs.Words.{Spells}
 use Rattle.stripe_check.specs.Reports.{report_of}
+use Rattle.stripe_check.specs.Traces.{trace_of}
+use Rattle.xor_cli.specs.declared.decoding.faults.Fault.{Fault}
+use Rattle.xor_cli.specs.declared.decoding.values.Format.{Format}
+use Rattle.xor_cli.specs.declared.decoding.values.Value.{Value}
+use Rattle.xor_cli.specs.declared.refusals.Refusal.{Refusal}
+use Rattle.xor_cli.specs.declared.refusals.Excess.{Excess}
+use Rattle.xor_cli.specs.declared.words.Command.TheVariants.{Step, Decode}
+use Rattle.xor_cli.specs.Decoding.{IsValue, IsFault}
+use Rattle.xor_cli.specs.DecodeTexts.{value_line, fault_line}
+use Rattle.xor_cli.specs.RefusalTexts.{refusal_line, excess_line}
+use Rattle.xor_cli.specs.Inputs.{IsRunnable, IsAccepted, IsRefused, IsExcess}
+use Rattle.outer_io.specs.Outside.{AppendsPrefix}
+use Rattle.xor_cli.specs.Words.{Spells, IsStep}
 use Rattle.xor_cli.specs.Headline.{IsJournalOf}
 
 -- a number is one of these
@@ -15,40 +24,73 @@ abbrev pub IsOneOf : List ℕ → ℕ → Type 0
 IsOneOf [] n = ⊥
 IsOneOf (m ∷ ms) n = (n ≡ m) ⊎ IsOneOf ms n
 
--- the most bytes of an input
-abbrev pub input_limit : ℕ
-input_limit = 50331648
-
--- the input is no longer than the limit, and spells this script
-abbrev pub IsAccepted : List ℕ → Script → Type 0
-IsAccepted input script = (length input ≤ input_limit) × SpellsFirst input script
-
--- it is longer, or spells no script that can be run
-abbrev pub IsRefused : List ℕ → Type 0
-IsRefused input = (input_limit < length input) ⊎ ((script : Script) → SpellsFirst input script → ⊥)
+-- ---- what is written
 
 -- the words ask for a run, the input is this script where its bytes are known, and the journal is a run of it
-pub record HasRun (words : List (List ℕ)) (input : Option (List ℕ)) (script : Script) (journal : List Entry) : Type 0 where
-  pub command : Spells words Step
-  pub runnable : IsFirst script
+pub record HasRun (words : List (List ℕ)) (traced : Bool) (input : Option (List ℕ)) (script : Script) (journal : List Entry) : Type 0 where
+  pub command : Spells words (Step traced)
+  pub runnable : IsRunnable script
   pub spelt : IfSome input (λ bytes. IsAccepted bytes script)
   pub run : IsJournalOf script journal
 
--- a script was run, and out has gained its report
+-- the report of a run, and where it is asked for the trace behind it
+abbrev pub step_text : Bool → Script → List Entry → List ℕ
+step_text false script journal = report_of script journal
+step_text true script journal = report_of script journal ++ trace_of journal
+
+-- the words ask what these bytes are in a format, the bytes spell this value, and nothing was run
+pub record HasDecoded (words : List (List ℕ)) (format : Format) (bytes : List ℕ) (value : Value) (journal : List Entry) : Type 0 where
+  pub command : Spells words (Decode format bytes)
+  pub spelt : IsValue format bytes value
+  pub run : journal ≡ []
+
+-- the text is that of a script that was run
+abbrev pub IsReport : List (List ℕ) → Option (List ℕ) → List Entry → List ℕ → Type 0
+IsReport words input journal text =
+    (traced : Bool) × ((script : Script) × (HasRun words traced input script journal × (text ≡ step_text traced script journal)))
+
+-- the text is the line of a value that was decoded
+abbrev pub IsValueLine : List (List ℕ) → List Entry → List ℕ → Type 0
+IsValueLine words journal text =
+    (format : Format) × ((bytes : List ℕ) × ((value : Value) × (HasDecoded words format bytes value journal × (text ≡ value_line value))))
+
+-- the text is all that a command writes
+abbrev pub IsOutput : List (List ℕ) → Option (List ℕ) → List Entry → List ℕ → Type 0
+IsOutput words input journal text = IsReport words input journal text ⊎ IsValueLine words journal text
+
+-- out has gained it
 abbrev pub IsDone : List (List ℕ) → Option (List ℕ) → Option (List ℕ) → Option (List ℕ) → List Entry → Type 0
-IsDone words input before after journal =
-    (script : Script) × HasRun words input script journal × Appends before after (report_of script journal)
+IsDone words input before after journal = (text : List ℕ) × (IsOutput words input journal text × Appends before after text)
 
--- a script was run, and out has gained a beginning of its report
+-- out has gained a beginning of it
 abbrev pub IsCutShort : List (List ℕ) → Option (List ℕ) → Option (List ℕ) → Option (List ℕ) → List Entry → Type 0
-IsCutShort words input before after journal =
-    (script : Script) × HasRun words input script journal × AppendsPrefix before after (report_of script journal)
+IsCutShort words input before after journal = (text : List ℕ) × (IsOutput words input journal text × AppendsPrefix before after text)
 
--- the line of notes that goes with a status, or none
-abbrev pub note_of : ℕ → List ℕ
-note_of status =
-    if status == 64 then codes "usage" ++ 10 ∷ []
-    else if status == 2 then codes "refused line 0 later" ++ 10 ∷ []
-    else if status == 3 then codes "read fault" ++ 10 ∷ []
-    else if status == 5 then codes "no memory" ++ 10 ∷ []
-    else []
+-- ---- what is noted
+
+-- the words ask for a run, and the input is refused with this line where its bytes are known
+abbrev pub IsRefusedRun : List (List ℕ) → Option (List ℕ) → List ℕ → Type 0
+IsRefusedRun words input note =
+    (refusal : Refusal) × (IsStep words × IfSome input (λ bytes. IsRefused bytes refusal) × (note ≡ refusal_line refusal))
+
+-- the words ask what these bytes are in a format, and they spell no value; their first fault is this
+pub record HasFault (words : List (List ℕ)) (format : Format) (bytes : List ℕ) (fault : Fault) : Type 0 where
+  pub command : Spells words (Decode format bytes)
+  pub first : IsFault format bytes fault
+
+abbrev pub IsFaultLine : List (List ℕ) → List ℕ → Type 0
+IsFaultLine words note =
+    (format : Format) × ((bytes : List ℕ) × ((fault : Fault) × (HasFault words format bytes fault × (note ≡ fault_line fault))))
+
+-- the line of notes of a refusal
+abbrev pub IsRefusal : List (List ℕ) → Option (List ℕ) → List ℕ → Type 0
+IsRefusal words input note = IsRefusedRun words input note ⊎ IsFaultLine words note
+
+-- notes have gained it
+abbrev pub IsRefusalNoted : List (List ℕ) → Option (List ℕ) → Option (List ℕ) → Option (List ℕ) → Type 0
+IsRefusalNoted words input before after = (note : List ℕ) × (IsRefusal words input note × Appends before after note)
+
+-- the words ask for a run, the input has too much of this where its bytes are known, and notes have gained its line
+abbrev pub IsExcessNoted : List (List ℕ) → Option (List ℕ) → Option (List ℕ) → Option (List ℕ) → Type 0
+IsExcessNoted words input before after =
+    (excess : Excess) × (IsStep words × IfSome input (λ bytes. IsExcess bytes excess) × Appends before after (excess_line excess))

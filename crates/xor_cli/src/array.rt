@@ -1,5 +1,7 @@
-//! The array that runs a first script: a book that numbers commands, targets in memory, and one journal.
+//! The array that runs a script: a book that numbers commands and targets in memory, each of
+//! which keeps the entries of its own lock.
 
+mod book;
 mod controller;
 mod pieces;
 mod running;

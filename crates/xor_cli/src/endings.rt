@@ -1,25 +1,27 @@
 ghost use Rattle.std.specs.Prelude.{◌≡◌};
-ghost use Rattle.xor_cli.specs.Endings.{note_of};
-ghost use Rattle.xor_cli.specs.Statuses.{status_of};
+ghost use Rattle.xor_cli.specs.Statuses.{status_of, note_of};
 
 use crate::input::InputFault;
-use blocks_core::Memory;
+use crate::refusals::{Excess, excess_line};
+use blocks_core::{Bytes, Memory};
 
 /// What stops a command before it has anything to write.
-#[derive(Clone, Copy, Debug, PartialEq, Eq)]
+#[derive(Debug, Drop)]
 pub enum Stop {
     /// The words spell no command.
     Usage,
     /// A read failed.
     ReadFault,
-    /// The input is too long, or isn't a script that can be run.
-    Refused,
+    /// What came is refused, and this line says why.
+    Refused { note: Bytes },
+    /// There is too much of something.
+    Exceeded(Excess),
     /// Want of memory.
     Memory,
 }
 
 /// How a command ends.
-#[derive(Clone, Copy, Debug, PartialEq, Eq)]
+#[derive(Debug, Drop)]
 pub enum Ending {
     /// It did what it was asked.
     Done,
@@ -36,10 +38,11 @@ impl Ending {
     {
         match self {
             Ending::Done => 0,
-            Ending::Stopped(Stop::Refused) => 2,
+            Ending::Stopped(Stop::Refused { .. }) => 2,
             Ending::Stopped(Stop::ReadFault) => 3,
             Ending::WriteFault => 4,
             Ending::Stopped(Stop::Memory) => 5,
+            Ending::Stopped(Stop::Exceeded(_)) => 7,
             Ending::Stopped(Stop::Usage) => 64,
         }
     }
@@ -47,11 +50,12 @@ impl Ending {
 
 impl Stop {
     /// The line that goes to notes.
-    pub fn note(self) -> &'static [u8]
-        ensures { result.now ≡ note_of (status_of (Ending.Stopped self)) }
+    pub fn note(&self) -> &[u8]
+        ensures { result.now ≡ note_of self.now }
     {
         match self {
-            Stop::Refused => b"refused line 0 later\n",
+            Stop::Refused { note } => note.as_slice(),
+            Stop::Exceeded(excess) => excess_line(*excess),
             Stop::ReadFault => b"read fault\n",
             Stop::Memory => b"no memory\n",
             Stop::Usage => b"usage\n",

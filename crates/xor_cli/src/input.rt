@@ -1,9 +1,9 @@
 ghost use Rattle.std.specs.Prelude.{◌≡◌, ◌≤◌, ◌+◌, length, take, IfOk, OnOk, IfSome, IsErrOf};
-ghost use Rattle.xor_cli.specs.Outside.{HasRisen};
-ghost use Rattle.xor_cli.specs.Endings.{input_limit};
+ghost use Rattle.outer_io.specs.Outside.{HasRisen};
+ghost use Rattle.xor_cli.specs.Inputs.{input_limit};
 
-use crate::outside::{Failed, Source};
 use blocks_core::{Bytes, Memory};
+use outer_io::{Failed, Source};
 use std::alloc::Global;
 
 /// The most bytes of an input.

@@ -3,11 +3,15 @@
 #![tactic(auto)]
 
 mod array;
+mod decoding;
 mod endings;
 mod input;
-pub mod outside;
+mod later;
+mod numerals;
+mod refusals;
 #[cfg(test)]
 mod tests;
+mod text;
 mod top;
 mod words;
 mod working;

@@ -1,17 +1,26 @@
-ghost use Rattle.std.specs.Prelude.{◌≡◌, ◌≢◌, ◌⊎◌, [], ◌∷◌, IfSome};
+ghost use Rattle.std.specs.Prelude.{ℕ, List, ◌≡◌, ◌≢◌, ◌⊎◌, [], ◌∷◌, IfSome};
 ghost use Rattle.std.specs.Io.KnownBytes.{Appends};
 ghost use Rattle.host_scripts.specs.declared.script.Script.{Script};
-ghost use Rattle.xor_cli.specs.declared.words.Command.TheVariants.{Step};
-ghost use Rattle.xor_cli.specs.Outside.{HasRisen, AppendsPrefix};
-ghost use Rattle.xor_cli.specs.Words.{texts, Spells, SpellsNone};
-ghost use Rattle.xor_cli.specs.Endings.{IsAccepted, IsOneOf, IsRefused, IsDone, IsCutShort, note_of};
-ghost use Rattle.xor_cli.specs.Statuses.{status_of};
+ghost use Rattle.xor_cli.specs.declared.decoding.faults.Fault.{Fault};
+ghost use Rattle.xor_cli.specs.declared.decoding.values.Format.{Format};
+ghost use Rattle.xor_cli.specs.declared.decoding.values.Value.{Value};
+ghost use Rattle.xor_cli.specs.declared.refusals.Refusal.{Refusal};
+ghost use Rattle.xor_cli.specs.declared.refusals.Excess.{Excess};
+ghost use Rattle.xor_cli.specs.declared.words.Command.TheVariants as commands;
+ghost use Rattle.xor_cli.specs.Decoding.{IsValue, IsFault};
+ghost use Rattle.xor_cli.specs.DecodeTexts.{value_line, fault_line};
+ghost use Rattle.xor_cli.specs.RefusalTexts.{refusal_line, excess_line};
+ghost use Rattle.outer_io.specs.Outside.{HasRisen, AppendsPrefix};
+ghost use Rattle.xor_cli.specs.Words.{texts, Spells, SpellsNone, IsStep, IsCommand};
+ghost use Rattle.xor_cli.specs.Inputs.{IsAccepted, IsRefused, IsLater, IsExcess};
+ghost use Rattle.xor_cli.specs.Endings.{IsOneOf, IsDone, IsCutShort, IsRefusalNoted, IsExcessNoted};
+ghost use Rattle.xor_cli.specs.Statuses.{status_of, note_of, noted_for, later_refusal};
 
 use crate::endings::{Ending, Stop};
-use crate::outside::{Sink, Source};
 use crate::working::{Made, work};
 use crate::writing::write_all;
 use array_journal::Journal;
+use outer_io::{Sink, Source};
 use std::alloc::Global;
 
 /// What a command came to: the status that its process ends with, and the journal of what it ran.
@@ -21,8 +30,12 @@ pub struct Outcome {
     pub journal: Journal,
 }
 
-/// Does what the words ask for: reads the source, writes to `out` what came of it, and to `notes`
-/// one line where nothing did.
+/// Does what the words ask for, and writes to `out` what came of it, and to `notes` one line where nothing did.
+///
+/// `step` runs the script that the source gives and writes its report; with `--trace` the trace of its journal follows.
+/// `decode cdb HEX`, `decode sense HEX`, `decode page HEX` and `decode params I BYTES HEX` say in one line what the bytes are:
+/// a command descriptor block, sense data, the XOR control mode page, or a parameter list of a command whose INTDATA bit is I
+/// and which takes so many bytes of intermediate data where it is one. They read nothing.
 pub fn tool<S: Source, K: Sink, N: Sink>(
     alloc: Global,
     words: &[String],
@@ -34,9 +47,9 @@ pub fn tool<S: Source, K: Sink, N: Sink>(
     ensures done { result.status ≡ 0 →
         IsDone (texts words.now) (S.left source.old) (K.written out.old) (K.written out.new) result.journal }
     ensures refused { result.status ≡ 2 →
-        Spells (texts words.now) Step × IfSome (S.left source.old) IsRefused }
+        IsRefusalNoted (texts words.now) (S.left source.old) (N.written notes.old) (N.written notes.new) }
     ensures read_fault { result.status ≡ 3 →
-        Spells (texts words.now) Step × HasRisen (S.faults source.old) (S.faults source.new) }
+        IsStep (texts words.now) × HasRisen (S.faults source.old) (S.faults source.new) }
     ensures write_fault { result.status ≡ 4 →
         (HasRisen (K.faults out.old) (K.faults out.new)
         × IsCutShort (texts words.now) (S.left source.old) (K.written out.old) (K.written out.new) result.journal
@@ -44,32 +57,59 @@ pub fn tool<S: Source, K: Sink, N: Sink>(
         ⊎ (HasRisen (N.faults notes.old) (N.faults notes.new)
         × (K.written out.new ≡ K.written out.old)
         × (result.journal ≡ [])) }
-    ensures no_memory { result.status ≡ 5 → Spells (texts words.now) Step }
+    ensures no_memory { result.status ≡ 5 → IsCommand (texts words.now) }
+    ensures exceeded { result.status ≡ 7 →
+        IsExcessNoted (texts words.now) (S.left source.old) (N.written notes.old) (N.written notes.new) }
     ensures usage { result.status ≡ 64 → SpellsNone (texts words.now) }
-    ensures no_other { IsOneOf (0 ∷ 2 ∷ 3 ∷ 4 ∷ 5 ∷ 64 ∷ []) result.status }
+    ensures no_other { IsOneOf (0 ∷ 2 ∷ 3 ∷ 4 ∷ 5 ∷ 7 ∷ 64 ∷ []) result.status }
 
     // Where a status comes, unless a read fails (3), a write fails (4) or memory runs out (5).
-    ensures runs { Spells (texts words.now) Step →
+    ensures runs { IsStep (texts words.now) →
         IfSome (S.left source.old) (λ input. (script : Script) → IsAccepted input script →
         IsOneOf (0 ∷ 3 ∷ 4 ∷ 5 ∷ []) result.status) }
-    ensures refuses { Spells (texts words.now) Step →
-        IfSome (S.left source.old) (λ input. IsRefused input →
-        IsOneOf (2 ∷ 3 ∷ 4 ∷ 5 ∷ []) result.status) }
+    ensures refuses { IsStep (texts words.now) →
+        IfSome (S.left source.old) (λ input. (refusal : Refusal) → IsRefused input refusal →
+        ((result.status ≡ 2) × Appends (N.written notes.old) (N.written notes.new) (refusal_line refusal))
+        ⊎ IsOneOf (3 ∷ 4 ∷ 5 ∷ []) result.status) }
+    // The same of a line that can't be run yet.
+    ensures later { IsStep (texts words.now) →
+        IfSome (S.left source.old) (λ input. (line : ℕ) → IsLater input line →
+        ((result.status ≡ 2) × Appends (N.written notes.old) (N.written notes.new) (refusal_line (later_refusal line)))
+        ⊎ IsOneOf (3 ∷ 4 ∷ 5 ∷ []) result.status) }
+    ensures limits { IsStep (texts words.now) →
+        IfSome (S.left source.old) (λ input. (excess : Excess) → IsExcess input excess →
+        ((result.status ≡ 7) × Appends (N.written notes.old) (N.written notes.new) (excess_line excess))
+        ⊎ IsOneOf (3 ∷ 4 ∷ 5 ∷ []) result.status) }
+    ensures decodes { (format : Format) (bytes : List ℕ) (value : Value) →
+        Spells (texts words.now) (commands.Decode format bytes) → IsValue format bytes value →
+        ((result.status ≡ 0) × Appends (K.written out.old) (K.written out.new) (value_line value))
+        ⊎ IsOneOf (4 ∷ 5 ∷ []) result.status }
+    ensures faults { (format : Format) (bytes : List ℕ) (fault : Fault) →
+        Spells (texts words.now) (commands.Decode format bytes) → IsFault format bytes fault →
+        ((result.status ≡ 2) × Appends (N.written notes.old) (N.written notes.new) (fault_line fault))
+        ⊎ IsOneOf (4 ∷ 5 ∷ []) result.status }
     ensures answers_usage { SpellsNone (texts words.now) → IsOneOf (64 ∷ 4 ∷ []) result.status }
 
-    // Where no count of faults rises, only want of memory keeps a script from its run.
-    ensures complete { Spells (texts words.now) Step →
+    // Where no count of faults rises, only want of memory keeps a script from its run, and a value from its line.
+    ensures complete { IsStep (texts words.now) →
         IfSome (S.left source.old) (λ input. (script : Script) → IsAccepted input script →
         ¬ HasRisen (S.faults source.old) (S.faults source.new) →
         ¬ HasRisen (K.faults out.old) (K.faults out.new) →
         ¬ HasRisen (N.faults notes.old) (N.faults notes.new) →
         IsOneOf (0 ∷ 5 ∷ []) result.status) }
+    ensures decodes_complete { (format : Format) (bytes : List ℕ) (value : Value) →
+        Spells (texts words.now) (commands.Decode format bytes) → IsValue format bytes value →
+        ¬ HasRisen (K.faults out.old) (K.faults out.new) →
+        ¬ HasRisen (N.faults notes.old) (N.faults notes.new) →
+        IsOneOf (0 ∷ 5 ∷ []) result.status }
 
-    // What else is written, and kept.
+    // What else is written and read, and kept.
+    ensures unread { (format : Format) (bytes : List ℕ) → Spells (texts words.now) (commands.Decode format bytes) →
+        (S.left source.new ≡ S.left source.old) × (S.faults source.new ≡ S.faults source.old) }
     ensures unwritten { result.status ≢ 0 → result.status ≢ 4 →
         (K.written out.new ≡ K.written out.old) × (result.journal ≡ []) }
-    ensures noted { result.status ≢ 4 →
-        Appends (N.written notes.old) (N.written notes.new) (note_of result.status) }
+    ensures noted { result.status ≢ 2 → result.status ≢ 7 → result.status ≢ 4 →
+        Appends (N.written notes.old) (N.written notes.new) (noted_for result.status) }
 {
     match work(alloc, words, source) {
         Ok(made) => hand_out(out, made),
@@ -101,7 +141,7 @@ fn hand_out<K: Sink>(out: &mut K, made: Made) -> Outcome
 /// Writes why there is nothing to write.
 fn hand_note<N: Sink>(alloc: Global, notes: &mut N, stop: Stop) -> Outcome
     ensures status { ((result.status ≡ status_of (Ending.Stopped stop))
-        × Appends (N.written notes.old) (N.written notes.new) (note_of (status_of (Ending.Stopped stop))))
+        × Appends (N.written notes.old) (N.written notes.new) (note_of stop))
         ⊎ ((result.status ≡ 4) × HasRisen (N.faults notes.old) (N.faults notes.new)) }
     ensures journal { result.journal ≡ [] }
 {

@@ -1,8 +1,8 @@
 ghost use Rattle.std.specs.Prelude.{OnOk, OnErr};
 ghost use Rattle.std.specs.Io.KnownBytes.{Appends};
-ghost use Rattle.xor_cli.specs.Outside.{HasRisen, AppendsPrefix};
+ghost use Rattle.outer_io.specs.Outside.{HasRisen, AppendsPrefix};
 
-use crate::outside::{Failed, Sink};
+use outer_io::{Failed, Sink};
 
 /// Writes all of these bytes.
 pub fn write_all<K: Sink>(sink: &mut K, bytes: &[u8]) -> Result<(), Failed>

@@ -2,10 +2,10 @@
 //! on standard output, and one line on standard error where there is no report.
 #![tactic(auto)]
 
+use outer_io::{ReaderSource, WriterSink};
 use std::process::ExitCode;
 use std::rt::Env;
 use std::{env, io};
-use xor_cli::outside::{ReaderSource, WriterSink};
 use xor_cli::tool;
 
 /// The status of want of memory.

@@ -3,20 +3,21 @@ ghost use Rattle.array_journal.specs.Lists.{slice};
 ghost use Rattle.xor_cli.specs.Disks.{disk_of, IsOnDisk, with_diff, with_take, with_fold};
 ghost use Rattle.xor_cli.specs.Serving.{next_at, with_next};
 
+use crate::array::book::Book;
 use crate::array::target::Target;
-use array_journal::{At, Entry, Event, Journal, Names, Setting, Task};
+use array_journal::{At, Entry, Event, Names, Setting, Task};
 use blocks_core::{Bytes, Memory};
 use sbc_cdbs::Cdb;
 use std::alloc::Global;
 
-/// The array's controller: its targets, its book as a count of commands, and its journal.
+/// The array's controller: its book and its targets, each with the entries of its lock, and the last
+/// stamp that it gave. Stamps are 1, 2, 3 and so on over all locks.
 #[derive(Debug, Drop)]
 pub struct Controller {
     pub setting: Setting,
+    pub book: Book,
     pub targets: Vec<Target>,
-    pub journal: Journal,
-    /// How many commands were opened.
-    pub commands: u32,
+    pub stamp: u64,
 }
 
 /// What each act of a command goes by.
@@ -29,37 +30,66 @@ pub struct Served {
 }
 
 impl Controller {
-    ghost use Rattle.xor_cli.specs.Rest.{IsSameArray};
+    ghost use Rattle.xor_cli.specs.Arrays.{array_of, IsKept};
 
-    /// Appends an entry, with the next stamp.
-    fn append(&mut self, lock: u8, event: Event) -> Result<At, Memory>
-        ensures name { IfOk result (λ at. at ≡ next_at self.old.journal lock) }
-        ensures entry { OnOk result (self.new ≡ record self.old { journal = with_next self.old.journal lock event }) }
+    /// Appends an entry in the book, with the next stamp.
+    fn append_in_book(&mut self, event: Event) -> Result<At, Memory>
+        requires kept { IsKept self.old }
+        ensures kept { OnOk result (IsKept self.new) }
+        ensures name { IfOk result (λ at. at ≡ next_at (array_of self.old).journal 0) }
+        ensures entry { OnOk result (array_of self.new ≡ record (array_of self.old) {
+          journal = with_next (array_of self.old).journal 0 event;
+        }) }
     {
-        let stamp = (self.journal.len() as u64).checked_add(1).ok_or(Memory)?;
-        self.journal.push(Entry { stamp, lock, event })?;
+        let stamp = self.stamp.checked_add(1).ok_or(Memory)?;
+        self.book.entries.push(Entry {
+            stamp,
+            lock: 0,
+            event,
+        })?;
+        self.stamp = stamp;
+        Ok(At { stamp, lock: 0 })
+    }
+
+    /// Appends an entry at a target, with the next stamp.
+    fn append_at_target(&mut self, target: u8, event: Event) -> Result<At, Memory>
+        requires kept { IsKept self.old }
+        requires number { target < 255 }
+        requires there { target < length self.old.targets.items }
+        ensures kept { OnOk result (IsKept self.new) }
+        ensures name { IfOk result (λ at. at ≡ next_at (array_of self.old).journal (target + 1)) }
+        ensures entry { OnOk result (array_of self.new ≡ record (array_of self.old) {
+          journal = with_next (array_of self.old).journal (target + 1) event;
+        }) }
+    {
+        let stamp = self.stamp.checked_add(1).ok_or(Memory)?;
+        let lock = target + 1;
+        self.targets[target as usize].keep(Entry { stamp, lock, event })?;
+        self.stamp = stamp;
         Ok(At { stamp, lock })
     }
 
     /// Opens a command in the book.
     pub fn open(&mut self, task: Task) -> Result<Served, Memory>
-        requires { task.count < 65536 }
+        requires kept { IsKept self.old }
+        requires count { task.count < 65536 }
+        ensures kept { OnOk result (IsKept self.new) }
         ensures served { IfOk result (λ served. served ≡ record {
-          command = self.old.commands;
-          opened = next_at self.old.journal 0;
+          command = self.old.book.commands;
+          opened = next_at (array_of self.old).journal 0;
           row = task.row;
           count = task.count;
         }) }
-        ensures entry { OnOk result (self.new ≡ record self.old {
-          journal = with_next self.old.journal 0 (Event.Open self.old.commands task);
-          commands = self.old.commands + 1;
+        ensures entry { OnOk result (array_of self.new ≡ record (array_of self.old) {
+          journal = with_next (array_of self.old).journal 0 (Event.Open self.old.book.commands task);
+          commands = self.old.book.commands + 1;
         }) }
     {
-        let command = self.commands;
+        let command = self.book.commands;
         let commands = command.checked_add(1).ok_or(Memory)?;
         let (row, count) = (task.row, task.count as u16);
-        let opened = self.append(0, Event::Open { command, task })?;
-        self.commands = commands;
+        let opened = self.append_in_book(Event::Open { command, task })?;
+        self.book.commands = commands;
         Ok(Served {
             command,
             opened,
@@ -83,12 +113,14 @@ impl Controller {
         target: u8,
         cdb: Cdb,
     ) -> Result<At, Memory>
+        requires kept { IsKept self.old }
         requires number { target < 255 }
-        requires on_disk { IsOnDisk self.old.targets.items target (served.row * self.old.setting.geometry.block) (served.count * self.old.setting.geometry.block) }
-        ensures name { IfOk result (λ at. at ≡ next_at self.old.journal (target + 1)) }
-        ensures entry { OnOk result (self.new ≡ record self.old {
-          journal = with_next self.old.journal (target + 1) (Event.Fetch served.command served.opened cdb served.row
-              (slice (disk_of self.old.targets.items target).medium (served.row * self.old.setting.geometry.block) (served.count * self.old.setting.geometry.block)));
+        requires on_disk { IsOnDisk (array_of self.old).disks target (served.row * self.old.setting.geometry.block) (served.count * self.old.setting.geometry.block) }
+        ensures kept { OnOk result (IsKept self.new) }
+        ensures name { IfOk result (λ at. at ≡ next_at (array_of self.old).journal (target + 1)) }
+        ensures entry { OnOk result (array_of self.new ≡ record (array_of self.old) {
+          journal = with_next (array_of self.old).journal (target + 1) (Event.Fetch served.command served.opened cdb served.row
+              (slice (disk_of (array_of self.old).disks target).medium (served.row * self.old.setting.geometry.block) (served.count * self.old.setting.geometry.block)));
         }) }
     {
         let at = self.byte_of(served.row);
@@ -101,7 +133,21 @@ impl Controller {
             row: served.row,
             bytes: Bytes::from_slice(alloc, read)?,
         };
-        self.append(target + 1, event)
+        self.append_at_target(target, event)
+    }
+
+    /// Writes bytes over rows at a target, which holds their exclusive-or with what stood there.
+    fn write(&mut self, alloc: Global, row: u32, target: u8, bytes: &[u8]) -> Result<(), Memory>
+        requires kept { IsKept self.old }
+        requires on_disk { IsOnDisk (array_of self.old).disks target (row * self.old.setting.geometry.block) (length bytes.now) }
+        ensures kept { OnOk result (IsKept self.new) }
+        ensures array { OnOk result (array_of self.new ≡ record (array_of self.old) {
+          disks = with_diff (array_of self.old).disks target (row * self.old.setting.geometry.block) bytes.now;
+        }) }
+    {
+        let at = self.byte_of(row);
+        self.targets[target as usize].xdwrite(alloc, at, bytes)?;
+        Ok(())
     }
 
     /// Writes a host's blocks at a target, which holds their delta.
@@ -113,16 +159,17 @@ impl Controller {
         cdb: Cdb,
         bytes: Bytes,
     ) -> Result<At, Memory>
+        requires kept { IsKept self.old }
         requires number { target < 255 }
-        requires on_disk { IsOnDisk self.old.targets.items target (served.row * self.old.setting.geometry.block) (length bytes) }
-        ensures name { IfOk result (λ at. at ≡ next_at self.old.journal (target + 1)) }
-        ensures entry { OnOk result (self.new.journal ≡ with_next self.old.journal (target + 1)
-            (Event.Diff served.command served.opened cdb served.row bytes false false)) }
-        ensures targets { OnOk result (self.new.targets.items ≡ with_diff self.old.targets.items target (served.row * self.old.setting.geometry.block) bytes) }
-        ensures rest { OnOk result (IsSameArray self.old self.new) }
+        requires on_disk { IsOnDisk (array_of self.old).disks target (served.row * self.old.setting.geometry.block) (length bytes) }
+        ensures kept { OnOk result (IsKept self.new) }
+        ensures name { IfOk result (λ at. at ≡ next_at (array_of self.old).journal (target + 1)) }
+        ensures array { OnOk result (array_of self.new ≡ record (array_of self.old) {
+          journal = with_next (array_of self.old).journal (target + 1) (Event.Diff served.command served.opened cdb served.row bytes false false);
+          disks = with_diff (array_of self.old).disks target (served.row * self.old.setting.geometry.block) bytes;
+        }) }
     {
-        let at = self.byte_of(served.row);
-        self.targets[target as usize].xdwrite(alloc, at, bytes.as_slice())?;
+        self.write(alloc, served.row, target, bytes.as_slice())?;
         let event = Event::Diff {
             command: served.command,
             opened: served.opened,
@@ -132,7 +179,18 @@ impl Controller {
             sent: false,
             dropped: false,
         };
-        self.append(target + 1, event)
+        self.append_at_target(target, event)
+    }
+
+    /// Takes what a target holds.
+    fn release(&mut self, alloc: Global, target: u8) -> Bytes
+        requires kept { IsKept self.old }
+        requires there { target < length self.old.targets.items }
+        ensures kept { IsKept self.new }
+        ensures delta { result ≡ (disk_of (array_of self.old).disks target).held }
+        ensures array { array_of self.new ≡ record (array_of self.old) { disks = with_take (array_of self.old).disks target } }
+    {
+        self.targets[target as usize].xdread(alloc)
     }
 
     /// Takes the delta that a target holds.
@@ -143,16 +201,19 @@ impl Controller {
         target: u8,
         cdb: Cdb,
     ) -> Result<(At, Bytes), Memory>
+        requires kept { IsKept self.old }
         requires number { target < 255 }
         requires on_disk { target < length self.old.targets.items }
-        ensures name { IfOk result (λ x. x.0 ≡ next_at self.old.journal (target + 1)) }
-        ensures delta { IfOk result (λ x. x.1 ≡ (disk_of self.old.targets.items target).held) }
-        ensures entry { OnOk result (self.new.journal ≡ with_next self.old.journal (target + 1)
-            (Event.Take served.command served.opened cdb served.row (disk_of self.old.targets.items target).held)) }
-        ensures targets { OnOk result (self.new.targets.items ≡ with_take self.old.targets.items target) }
-        ensures rest { OnOk result (IsSameArray self.old self.new) }
+        ensures kept { OnOk result (IsKept self.new) }
+        ensures name { IfOk result (λ x. x.0 ≡ next_at (array_of self.old).journal (target + 1)) }
+        ensures delta { IfOk result (λ x. x.1 ≡ (disk_of (array_of self.old).disks target).held) }
+        ensures array { OnOk result (array_of self.new ≡ record (array_of self.old) {
+          journal = with_next (array_of self.old).journal (target + 1)
+              (Event.Take served.command served.opened cdb served.row (disk_of (array_of self.old).disks target).held);
+          disks = with_take (array_of self.old).disks target;
+        }) }
     {
-        let delta = self.targets[target as usize].xdread(alloc);
+        let delta = self.release(alloc, target);
         let event = Event::Take {
             command: served.command,
             opened: served.opened,
@@ -160,7 +221,20 @@ impl Controller {
             row: served.row,
             bytes: delta.copy(alloc)?,
         };
-        Ok((self.append(target + 1, event)?, delta))
+        Ok((self.append_at_target(target, event)?, delta))
+    }
+
+    /// Folds bytes into rows at a target.
+    fn fold_in(&mut self, row: u32, target: u8, bytes: &[u8])
+        requires kept { IsKept self.old }
+        requires on_disk { IsOnDisk (array_of self.old).disks target (row * self.old.setting.geometry.block) (length bytes.now) }
+        ensures kept { IsKept self.new }
+        ensures array { array_of self.new ≡ record (array_of self.old) {
+          disks = with_fold (array_of self.old).disks target (row * self.old.setting.geometry.block) bytes.now;
+        } }
+    {
+        let at = self.byte_of(row);
+        self.targets[target as usize].xpwrite(at, bytes);
     }
 
     /// Folds a delta into the parity target.
@@ -173,16 +247,18 @@ impl Controller {
         delta: Bytes,
         taken: At,
     ) -> Result<At, Memory>
+        requires kept { IsKept self.old }
         requires number { target < 255 }
-        requires on_disk { IsOnDisk self.old.targets.items target (served.row * self.old.setting.geometry.block) (length delta) }
-        ensures name { IfOk result (λ at. at ≡ next_at self.old.journal (target + 1)) }
-        ensures entry { OnOk result (self.new.journal ≡ with_next self.old.journal (target + 1)
-            (Event.Fold served.command served.opened cdb served.row delta (taken ∷ []))) }
-        ensures targets { OnOk result (self.new.targets.items ≡ with_fold self.old.targets.items target (served.row * self.old.setting.geometry.block) delta) }
-        ensures rest { OnOk result (IsSameArray self.old self.new) }
+        requires on_disk { IsOnDisk (array_of self.old).disks target (served.row * self.old.setting.geometry.block) (length delta) }
+        ensures kept { OnOk result (IsKept self.new) }
+        ensures name { IfOk result (λ at. at ≡ next_at (array_of self.old).journal (target + 1)) }
+        ensures array { OnOk result (array_of self.new ≡ record (array_of self.old) {
+          journal = with_next (array_of self.old).journal (target + 1)
+              (Event.Fold served.command served.opened cdb served.row delta (taken ∷ []));
+          disks = with_fold (array_of self.old).disks target (served.row * self.old.setting.geometry.block) delta;
+        }) }
     {
-        let at = self.byte_of(served.row);
-        self.targets[target as usize].xpwrite(at, delta.as_slice());
+        self.fold_in(served.row, target, delta.as_slice());
         let mut names = Names::new(alloc);
         names.push(taken)?;
         let event = Event::Fold {
@@ -193,13 +269,15 @@ impl Controller {
             bytes: delta,
             names,
         };
-        self.append(target + 1, event)
+        self.append_at_target(target, event)
     }
 
     /// Closes a command as done, all its acts named.
     pub fn close(&mut self, alloc: Global, served: Served, names: Names) -> Result<At, Memory>
-        ensures { OnOk result (self.new ≡ record self.old {
-          journal = with_next self.old.journal 0 (Event.Close served.command true names None []);
+        requires kept { IsKept self.old }
+        ensures kept { OnOk result (IsKept self.new) }
+        ensures array { OnOk result (array_of self.new ≡ record (array_of self.old) {
+          journal = with_next (array_of self.old).journal 0 (Event.Close served.command true names None []);
         }) }
     {
         let event = Event::Close {
@@ -209,6 +287,6 @@ impl Controller {
             cause: None,
             bytes: Bytes::new(alloc),
         };
-        self.append(0, event)
+        self.append_in_book(event)
     }
 }

@@ -8,14 +8,17 @@ use sbc_cdbs::{Command, encode};
 use std::alloc::Global;
 
 impl Controller {
+    ghost use Rattle.xor_cli.specs.Arrays.{array_of, IsKept};
     ghost use Rattle.xor_cli.specs.Rest.{IsAtRest, IsServable, IsServed};
 
     /// Serves a read of one piece: its rows are fetched from their target.
     pub fn read(&mut self, alloc: Global, task: Task) -> Result<(), Memory>
-        requires rest { IsAtRest self.old }
+        requires kept { IsKept self.old }
+        requires rest { IsAtRest (array_of self.old) }
         requires task { IsServable self.old.setting task }
         requires kind { task.kind ≡ kinds.Read }
-        ensures { OnOk result (IsServed self.old self.new task) }
+        ensures kept { OnOk result (IsKept self.new) }
+        ensures served { OnOk result (IsServed (array_of self.old) (array_of self.new) task) }
     {
         let target = task.target;
         let served = self.open(task)?;
@@ -35,10 +38,12 @@ impl Controller {
     /// Serves a write of one piece: the data target writes it and holds the delta, which is taken
     /// from it and folded into parity.
     pub fn update(&mut self, alloc: Global, task: Task) -> Result<(), Memory>
-        requires rest { IsAtRest self.old }
+        requires kept { IsKept self.old }
+        requires rest { IsAtRest (array_of self.old) }
         requires task { IsServable self.old.setting task }
         requires kind { task.kind ≡ kinds.Update }
-        ensures { OnOk result (IsServed self.old self.new task) }
+        ensures kept { OnOk result (IsKept self.new) }
+        ensures served { OnOk result (IsServed (array_of self.old) (array_of self.new) task) }
     {
         let (target, parity) = (task.target, task.parity);
         let bytes = task.bytes.copy(alloc)?;

@@ -1,45 +1,49 @@
 ghost use Rattle.std.specs.Prelude.{◌≡◌, ◌*◌, ◌<◌, ◌^◌, [], length, replicate, IfOk, OnOk};
 ghost use Rattle.blocks_core.specs.Xor.{zeros};
 ghost use Rattle.stripe_layout.specs.Layout.{IsArray, capacity_of, rows_of};
-ghost use Rattle.host_scripts.specs.Scripts.{IsFirst, lba_of};
+ghost use Rattle.xor_cli.specs.Today.{CanRun};
 ghost use Rattle.xor_cli.specs.Headline.{IsJournalOf};
-ghost use Rattle.xor_cli.specs.Asked.{task_at as task_at_lem};
+ghost use Rattle.xor_cli.specs.Tasks.{task_at as task_of_blocks};
 
+use crate::array::book::Book;
 use crate::array::controller::Controller;
 use crate::array::target::Target;
-use array_journal::{Journal, Kind, Setting, Task};
+use array_journal::{Entries, Journal, Kind, Setting, Task, merge};
 use blocks_core::{Bytes, Memory};
 use host_scripts::{Action, Call, Script};
 use std::alloc::Global;
 use stripe_layout::Geometry;
 
 impl Controller {
-    ghost use Rattle.xor_cli.specs.Rest.{IsAtRest, IsServable, IsServed};
+    ghost use Rattle.xor_cli.specs.Arrays.{array_of, lists_of, IsKept};
+    ghost use Rattle.xor_cli.specs.Rest.{IsAtRest};
     ghost use Rattle.xor_cli.specs.Headline.{IsStart};
-    ghost use Rattle.xor_cli.specs.Asked.{task_for};
+    ghost use Rattle.xor_cli.specs.Tasks.{CanServe, HasServed};
 
     /// An array of zeros in which nothing happened yet.
     pub fn start(alloc: Global, setting: Setting) -> Result<Controller, Memory>
         requires { IsStart setting }
-        ensures rest { IfOk result (λ c. IsAtRest c) }
+        ensures kept { IfOk result (λ c. IsKept c) }
+        ensures rest { IfOk result (λ c. IsAtRest (array_of c)) }
         ensures setting { IfOk result (λ c. c.setting ≡ setting) }
-        ensures empty { IfOk result (λ c. c.journal ≡ []) }
+        ensures empty { IfOk result (λ c. (array_of c).journal ≡ []) }
     {
         let geometry = setting.geometry;
         Ok(Controller {
             setting,
+            book: Book::new(alloc),
             targets: blank_targets(alloc, geometry)?,
-            journal: Journal::new(alloc),
-            commands: 0,
+            stamp: 0,
         })
     }
 
     /// Serves one call of one piece, which has this number among the calls.
     pub fn serve(&mut self, alloc: Global, number: u32, call: &Call) -> Result<(), Memory>
-        requires rest { IsAtRest self.old }
-        requires in_range { lba_of call.now.action < capacity_of self.old.setting.geometry }
-        requires task { IsServable self.old.setting (task_for self.old.setting.geometry number call.now.action) }
-        ensures { OnOk result (IsServed self.old self.new (task_for self.old.setting.geometry number call.now.action)) }
+        requires kept { IsKept self.old }
+        requires rest { IsAtRest (array_of self.old) }
+        requires action { CanServe self.old.setting number call.now.action }
+        ensures kept { OnOk result (IsKept self.new) }
+        ensures served { OnOk result (HasServed (array_of self.old) (array_of self.new) number call.now.action) }
     {
         let geometry = self.setting.geometry;
         match &call.action {
@@ -54,27 +58,50 @@ impl Controller {
                 let task = task_at(geometry, number, Kind::Update, *lba, count, bytes);
                 self.update(alloc, task)
             }
+            _ => unreachable!(),
         }
     }
 
-    /// The journal of all that happened.
-    pub fn into_journal(self) -> Journal
-        ensures { result ≡ self.journal }
+    /// The lists of entries: the book's, and each target's.
+    fn into_lists(self, alloc: Global) -> Result<Vec<Entries>, Memory>
+        ensures { IfOk result (λ lists. lists.items ≡ lists_of self) }
     {
         let Controller {
             setting: _,
-            targets: _,
-            journal,
-            commands: _,
+            book,
+            targets,
+            stamp: _,
         } = self;
-        journal
+        let Book {
+            commands: _,
+            entries,
+        } = book;
+        let mut lists = Vec::new(alloc);
+        lists.push(entries)?;
+        for target in targets {
+            lists.push(target.into_entries())?;
+        }
+        Ok(lists)
+    }
+
+    /// The journal of all that happened.
+    pub fn into_journal(self, alloc: Global) -> Result<Journal, Memory>
+        requires kept { IsKept self }
+        ensures { IfOk result (λ journal. journal ≡ (array_of self).journal) }
+    {
+        let lists = self.into_lists(alloc)?;
+        let journal = merge(alloc, lists)?;
+        Ok(journal)
     }
 }
 
 /// Targets of zeros, as many as the array has.
 fn blank_targets(alloc: Global, geometry: Geometry) -> Result<Vec<Target>, Memory>
     requires { IsArray geometry }
-    ensures { IfOk result (λ v. v.items ≡ replicate geometry.targets (record { medium = zeros (rows_of geometry * geometry.block); held = [] })) }
+    ensures { IfOk result (λ v. v.items ≡ replicate geometry.targets (record {
+      disk = record { medium = zeros (rows_of geometry * geometry.block); held = [] };
+      entries = [];
+    })) }
 {
     let size = geometry.stripes as usize * geometry.unit as usize * geometry.block as usize;
     let mut targets = Vec::new(alloc);
@@ -88,7 +115,7 @@ fn blank_targets(alloc: Global, geometry: Geometry) -> Result<Vec<Target>, Memor
 fn task_at(geometry: Geometry, number: u32, kind: Kind, lba: u32, count: u32, bytes: Bytes) -> Task
     requires array { IsArray geometry }
     requires in_range { lba < capacity_of geometry }
-    ensures { result ≡ task_at_lem geometry number kind lba count bytes }
+    ensures { result ≡ task_of_blocks geometry number kind lba count bytes }
 {
     let place = geometry.place(lba);
     Task {
@@ -104,9 +131,9 @@ fn task_at(geometry: Geometry, number: u32, kind: Kind, lba: u32, count: u32, by
     }
 }
 
-/// Runs a first script: each call is served in its turn.
+/// Runs a script: each call is served in its turn.
 pub fn run(alloc: Global, script: &Script) -> Result<Journal, Memory>
-    requires first { IsFirst script.now }
+    requires today { CanRun script.now }
     requires fewer { length script.now.calls < 2 ^ 32 }
     ensures { IfOk result (λ journal. IsJournalOf script.now journal) }
 {
@@ -119,5 +146,6 @@ pub fn run(alloc: Global, script: &Script) -> Result<Journal, Memory>
     for (place, call) in script.calls.as_slice().iter().enumerate() {
         controller.serve(alloc, place as u32 + 1, call)?;
     }
-    Ok(controller.into_journal())
+    let journal = controller.into_journal(alloc)?;
+    Ok(journal)
 }

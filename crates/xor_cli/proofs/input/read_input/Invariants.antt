@@ -1,7 +1,7 @@
 -- the bytes so far are those that the source gave, and it has failed no less often
 use Rattle.std.proofs.Common.{◌≤◌, ◌+◌, ◌-◌, length}
 use Rattle.std.specs.Io.KnownBytes.{Consumes}
-use Rattle.xor_cli.specs.Endings.{input_limit}
+use Rattle.xor_cli.specs.Inputs.{input_limit}
 use Rattle.xor_cli.proofs.input.read_input.Given as goal
 
 abbrev pub invariant-loop-chunk : goal.invariant-loop-chunk

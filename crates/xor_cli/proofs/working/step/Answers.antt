@@ -1,6 +1,6 @@
 use Rattle.std.proofs.Common.{subst, List, ℕ}
 use Rattle.std.proofs.lemmas.Result.{IfOk-weaker, IfErr-weaker}
-use Rattle.xor_cli.specs.Endings.{IsAccepted}
+use Rattle.xor_cli.specs.Inputs.{IsAccepted}
 use Rattle.xor_cli.specs.Statuses.{StopsRun}
 use Rattle.xor_cli.proofs.Work.{accepted-left, stops-step}
 use Rattle.xor_cli.proofs.working.step.Goals as goal
@@ -8,7 +8,7 @@ use Rattle.xor_cli.proofs.working.step.Goals as goal
 pub returns-clause-made : goal.returns-clause-made
 returns-clause-made g c =
     IfOk-weaker c.made_from.result _ _ (λ made run.
-    (run.0, run.1.1.1, accepted-left _ c.in_ok-input.input run.0 c.in_ok-input.ensures.bytes (let P : List ℕ → Type 0 = λ b. IsAccepted b run.0 in subst P c.as_slice.ensures run.1), run.2)) c.made_from.ensures.made
+    (run.0, run.1.1, accepted-left _ c.in_ok-input.input run.0 c.in_ok-input.ensures.bytes (let P : List ℕ → Type 0 = λ b. IsAccepted b run.0 in subst P c.as_slice.ensures run.1), run.2)) c.made_from.ensures.made
 
 pub returns-clause-stop : goal.returns-clause-stop
 returns-clause-stop g c =

@@ -1,13 +1,15 @@
 -- the calls so far were served, and the controller is at rest
-use Rattle.std.proofs.Common.{◌≡◌, take}
-use Rattle.xor_cli.specs.Asked.{IsAsked}
+use Rattle.std.proofs.Common.{◌≡◌, ◌+◌, [], reverse}
+use Rattle.xor_cli.specs.Arrays.{array_of, IsKept}
 use Rattle.xor_cli.specs.Rest.{IsAtRest}
 use Rattle.stripe_check.specs.Reports.{setting_of}
+use Rattle.xor_cli.proofs.Going.{Going}
 use Rattle.xor_cli.proofs.array.running.run.Given as goal
 
 abbrev pub invariant-loop-place : goal.invariant-loop-place
 invariant-loop-place l = record {
-  rest : IsAtRest l.controller;
+  kept : IsKept l.controller;
+  rest : IsAtRest (array_of l.controller);
   setting : l.controller.setting ≡ setting_of l.script;
-  asked : IsAsked l.script.geometry (take l.place l.script.calls) l.controller.journal;
+  going : Going l.script (l.place + 1) [] (reverse (array_of l.controller).journal);
 }

@@ -1,0 +1,79 @@
+-- A script no line of which waits for later can be run.
+use Rattle.std.proofs.Common.{◌≡◌, ◌+◌, ◌/◌, ◌%◌, ◌==◌, ◌&&◌, nat_le, not, cond, ℕ, suc, Bool, true, false, List, [], ◌∷◌, length, Option, Some, None, refl, arith}
+use Rattle.std.specs.List.{AllByRecursion}
+use Rattle.std.proofs.lemmas.Bool.{and_parts, leb-true, eqb-true, not-false}
+use Rattle.stripe_layout.specs.Layout.{capacity_of}
+use Rattle.stripe_layout.specs.declared.mode.Mode.{Mode}
+use Rattle.stripe_layout.specs.declared.mode.Mode.TheVariants.{Supervised, ThirdParty}
+use Rattle.host_scripts.specs.declared.script.Script.{Script}
+use Rattle.host_scripts.specs.declared.script.Call.{Call}
+use Rattle.host_scripts.specs.declared.script.Action.{Action}
+use Rattle.host_scripts.specs.declared.script.Action.TheVariants.{Read, Write, Fill, Raw, Lose, Reset, DropNext, Replace, Rebuild, Resync}
+use Rattle.host_scripts.specs.Scripts.{IsScript}
+use Rattle.array_journal.specs.Acts.{is_third_party}
+use Rattle.stripe_check.specs.Cuts.{most_blocks}
+use Rattle.xor_cli.specs.Later.{is_one_piece, can_do, can_call, later_call, first_later}
+use Rattle.xor_cli.specs.Today.{AreOnePiece, CanDo, CanCall, CanRun}
+
+-- nothing is left where the choice says so
+left-none : (b : Bool) (n : ℕ) (other : Option ℕ) → cond b (Some n) other ≡ None → (b ≡ false) × (other ≡ None)
+left-none true n other e = absurd cc
+left-none false n other e = (refl, e)
+
+one-piece : (s : Script) (lba count : ℕ) → is_one_piece s lba count ≡ true → AreOnePiece s lba count
+one-piece s lba count e =
+    let a = and_parts (nat_le 1 count && nat_le count (most_blocks s) && nat_le (lba % s.geometry.unit + count) s.geometry.unit) (nat_le (lba + count) (capacity_of s.geometry)) e in
+    let b = and_parts (nat_le 1 count && nat_le count (most_blocks s)) (nat_le (lba % s.geometry.unit + count) s.geometry.unit) a.0 in
+    let c = and_parts (nat_le 1 count) (nat_le count (most_blocks s)) b.0 in
+    record {
+      some = leb-true 1 count c.0;
+      most = leb-true count (most_blocks s) c.1;
+      in_unit = leb-true (lba % s.geometry.unit + count) s.geometry.unit b.1;
+      within = leb-true (lba + count) (capacity_of s.geometry) a.1;
+    }
+
+do-today : (s : Script) (action : Action) → can_do s action ≡ true → CanDo s action
+do-today s (Read lba count) e = one-piece s lba count e
+do-today s (Write lba bytes) e = one-piece s lba (length bytes / s.geometry.block) e
+do-today s (Fill lba count byte) e = absurd cc
+do-today s (Raw cdb bytes) e = absurd cc
+do-today s (Lose target) e = absurd cc
+do-today s (Reset target) e = absurd cc
+do-today s (DropNext target) e = absurd cc
+do-today s (Replace target) e = absurd cc
+do-today s (Rebuild target) e = absurd cc
+do-today s Resync e = absurd cc
+
+call-today : (s : Script) (call : Call) → can_call s call ≡ true → CanCall s call
+call-today s call e =
+    let parts = and_parts (call.host == 0) (can_do s call.action) e in
+    (eqb-true call.host 0 parts.0, do-today s call.action parts.1)
+
+passed : (b : Bool) (n : ℕ) (other : Option ℕ) → cond b other (Some n) ≡ None → (b ≡ true) × (other ≡ None)
+passed true n other e = (refl, e)
+passed false n other e = absurd cc
+
+calls-today : (s : Script) (number : ℕ) (calls : List Call) → later_call s number calls ≡ None → AllByRecursion (CanCall s) calls
+calls-today s number [] e = tt
+calls-today s number (call ∷ calls) e =
+    let first = passed (can_call s call) number (later_call s (suc number) calls) e in
+    (call-today s call first.0, calls-today s (suc number) calls first.1)
+
+supervised : (mode : Mode) → is_third_party mode ≡ false → mode ≡ Supervised
+supervised Supervised e = refl
+supervised ThirdParty e = absurd cc
+
+unordered : (order : List ℕ) → not (length order == 0) ≡ false → order ≡ []
+unordered [] e = refl
+unordered (h ∷ hosts) e = let none : length (h ∷ hosts) ≡ 0 = eqb-true (length (h ∷ hosts)) 0 (not-false (length (h ∷ hosts) == 0) e) in absurd (omega (arith, none))
+
+pub runs-today : (s : Script) → IsScript s → first_later s ≡ None → CanRun s
+runs-today s script e =
+    let mode = left-none (is_third_party s.mode) 8 _ e in
+    let turns = left-none (not (length s.order == 0)) 11 _ mode.1 in
+    record {
+      in_range = script;
+      supervised = supervised s.mode mode.0;
+      unordered = unordered s.order turns.0;
+      calls = calls-today s 11 s.calls turns.1;
+    }

@@ -1,0 +1,46 @@
+-- The first line of a script that can't be run yet, where every line is spelt: the line of the mode in which targets move
+-- the deltas themselves, the line of the first turns, or the line of a call other than a read or a write of the first
+-- host that is one piece within the capacity.
+use Rattle.std.specs.Prelude.{ℕ, suc, ◌+◌, ◌/◌, ◌%◌, ◌==◌, ◌&&◌, not, nat_le, Bool, false, if◌then◌else◌, List, [], ◌∷◌, length, Option, Some, None}
+use Rattle.stripe_layout.specs.Layout.{capacity_of}
+use Rattle.host_scripts.specs.declared.script.Script.{Script}
+use Rattle.host_scripts.specs.declared.script.Call.{Call}
+use Rattle.host_scripts.specs.declared.script.Action.{Action}
+use Rattle.host_scripts.specs.declared.script.Action.TheVariants.{Read, Write, Fill, Raw, Lose, Reset, DropNext, Replace, Rebuild, Resync}
+use Rattle.array_journal.specs.Acts.{is_third_party}
+use Rattle.stripe_check.specs.Cuts.{most_blocks}
+
+-- so many blocks from this one are one piece within the capacity
+abbrev pub is_one_piece : Script → ℕ → ℕ → Bool
+is_one_piece script lba count =
+    nat_le 1 count && nat_le count (most_blocks script) && nat_le (lba % script.geometry.unit + count) script.geometry.unit
+    && nat_le (lba + count) (capacity_of script.geometry)
+
+-- a read or a write of such blocks
+abbrev pub can_do : Script → Action → Bool
+can_do script (Read lba count) = is_one_piece script lba count
+can_do script (Write lba bytes) = is_one_piece script lba (length bytes / script.geometry.block)
+can_do script (Fill lba count byte) = false
+can_do script (Raw cdb bytes) = false
+can_do script (Lose target) = false
+can_do script (Reset target) = false
+can_do script (DropNext target) = false
+can_do script (Replace target) = false
+can_do script (Rebuild target) = false
+can_do script Resync = false
+
+-- one of the first host
+abbrev pub can_call : Script → Call → Bool
+can_call script call = (call.host == 0) && can_do script call.action
+
+-- the line of the first of these calls that can't be run, where they begin on this line
+abbrev pub later_call : Script → ℕ → List Call → Option ℕ
+later_call script number [] = None
+later_call script number (call ∷ calls) = if can_call script call then later_call script (suc number) calls else Some number
+
+-- the mode stands on line 8; line 11 is that of the first turns where there are any, and else that of the first call
+abbrev pub first_later : Script → Option ℕ
+first_later script =
+    if is_third_party script.mode then Some 8
+    else if not (length script.order == 0) then Some 11
+    else later_call script 11 script.calls

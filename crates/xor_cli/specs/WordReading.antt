@@ -1,0 +1,110 @@
+-- Reading words from left to right: what is read from the front, and the words after it.
+use Rattle.std.specs.Prelude.{ℕ, ◌≡◌, ◌%◌, ◌==◌, ◌&&◌, ◌||◌, not, nat_lt, nat_le, Bool, true, false, if◌then◌else◌, List, [], ◌∷◌, length, codes, Option, Some, None}
+use Rattle.std.specs.List.{list_all}
+use Rattle.std.specs.Fmt.{decimal}
+use Rattle.std.specs.Result.{result_ok}
+use Rattle.std.specs.Str.{bytes_eq}
+use Rattle.std.specs.Str.Parse.{digits_value}
+use Rattle.hex.specs.Hex.{decode_of}
+use Rattle.xor_cli.specs.declared.decoding.values.Format.{Format}
+use Rattle.xor_cli.specs.declared.decoding.values.Format.TheVariants as formats
+use Rattle.xor_cli.specs.declared.words.Command.{Command}
+use Rattle.xor_cli.specs.declared.words.Command.TheVariants.{Step, Decode}
+
+-- the second step, where the first gave a value
+infixl 10 ◌>>=◌
+abbrev pub ◌>>=◌ : {A B : Type 0} → Option A → (A → Option B) → Option B
+(Some x) >>= f = f x
+None >>= f = None
+
+-- what a function returned, seen by view, is what reading gives
+abbrev pub Reads : {X Y : Type 0} → (X → Y) → Option X → Option Y → Type 0
+Reads view (Some x) read = read ≡ Some (view x)
+Reads view None read = read ≡ None
+
+-- the first word, and those after it
+abbrev pub first_of : List (List ℕ) → Option (List ℕ × List (List ℕ))
+first_of [] = None
+first_of (word ∷ words) = Some (word, words)
+
+-- the one word
+abbrev pub single_of : List (List ℕ) → Option (List ℕ)
+single_of [] = None
+single_of (word ∷ []) = Some word
+single_of (word ∷ other ∷ words) = None
+
+-- a bit
+abbrev pub flag_of : List ℕ → Option Bool
+flag_of word = if bytes_eq word (codes "0") then Some false else if bytes_eq word (codes "1") then Some true else None
+
+-- the number below 2 ^ 32 whose decimal digits these are
+unfoldable pub number_of : List ℕ → Option ℕ
+number_of word =
+    if nat_lt (digits_value 10 word) 4294967296 && bytes_eq word (decimal (digits_value 10 word)) then Some (digits_value 10 word)
+    else None
+
+-- a hexadecimal digit in lower case
+abbrev pub is_digit : ℕ → Bool
+is_digit c = (nat_le 48 c && nat_le c 57) || (nat_le 97 c && nat_le c 102)
+
+-- at least one byte, each as two digits
+abbrev pub is_hex : List ℕ → Bool
+is_hex word = not (length word == 0) && (length word % 2 == 0) && list_all is_digit word
+
+-- the bytes of pairs of digits
+unfoldable pub hex_of : List ℕ → Option (List ℕ)
+hex_of word = if is_hex word then result_ok (decode_of word) else None
+
+-- what stands behind `params`
+unfoldable pub params_at : List (List ℕ) → Option (Format × List (List ℕ))
+params_at words = do
+  bit ← first_of words
+  intdata ← flag_of bit.0
+  number ← first_of bit.1
+  wanted ← number_of number.0
+  Some (formats.Params intdata wanted, number.1)
+
+-- what stands behind `decode`: the name of a format
+abbrev pub named : List ℕ → List (List ℕ) → Option (Format × List (List ℕ))
+named name words =
+    if bytes_eq name (codes "cdb") then Some (formats.Cdb, words)
+    else if bytes_eq name (codes "sense") then Some (formats.Sense, words)
+    else if bytes_eq name (codes "page") then Some (formats.Page, words)
+    else if bytes_eq name (codes "params") then params_at words
+    else None
+
+unfoldable pub format_at : List (List ℕ) → Option (Format × List (List ℕ))
+format_at words = do
+  name ← first_of words
+  named name.0 name.1
+
+-- what stands behind a format: the bytes
+unfoldable pub last_at : Format → List (List ℕ) → Option Command
+last_at format words = do
+  word ← single_of words
+  bytes ← hex_of word
+  Some (Decode format bytes)
+
+-- what stands behind `decode`
+unfoldable pub decode_at : List (List ℕ) → Option Command
+decode_at words = do
+  format ← format_at words
+  last_at format.0 format.1
+
+-- what stands behind `step`
+abbrev pub step_at : List (List ℕ) → Option Command
+step_at [] = Some (Step false)
+step_at (word ∷ []) = if bytes_eq word (codes "--trace") then Some (Step true) else None
+step_at (word ∷ other ∷ words) = None
+
+-- what stands behind a verb
+abbrev pub told : List ℕ → List (List ℕ) → Option Command
+told verb words =
+    if bytes_eq verb (codes "step") then step_at words
+    else if bytes_eq verb (codes "decode") then decode_at words
+    else None
+
+unfoldable pub command_at : List (List ℕ) → Option Command
+command_at words = do
+  verb ← first_of words
+  told verb.0 verb.1

@@ -1,0 +1,13 @@
+//! What values bytes spell, and their texts.
+
+mod cdbs;
+mod faults;
+mod lines;
+mod pages;
+mod params;
+mod senses;
+mod values;
+
+pub use faults::Fault;
+pub use lines::{fault_line, value_line};
+pub use values::{Format, Undecoded, Value, value_of};

@@ -1,0 +1,80 @@
+//! The lines of values and of faults.
+
+ghost use Rattle.std.specs.Prelude.{◌≡◌, ◌++◌, ◌∷◌, [], IfOk, OnOk, codes};
+ghost use Rattle.host_scripts.specs.Scripts.{hex};
+ghost use Rattle.xor_cli.specs.DecodeTexts.{field, value_text, fault_text, value_line, fault_line};
+
+use crate::decoding::cdbs::push_cdb;
+use crate::decoding::pages::push_page;
+use crate::decoding::params::push_params;
+use crate::decoding::senses::push_sense;
+use crate::decoding::{Fault, Value};
+use crate::text::push_field;
+use blocks_core::{Bytes, Memory};
+use std::alloc::Global;
+use stripe_check::push_hex;
+
+fn push_value(text: &mut Bytes, value: &Value) -> Result<(), Memory>
+    ensures { OnOk result (text.new ≡ text.old ++ value_text value.now) }
+{
+    match value {
+        Value::Cdb(command) => push_cdb(text, command),
+        Value::Sense(sense) => push_sense(text, sense),
+        Value::Page(page) => push_page(text, page),
+        Value::Params(params) => push_params(text, params),
+    }
+}
+
+/// The line of a value.
+pub fn value_line(alloc: Global, value: &Value) -> Result<Bytes, Memory>
+    ensures { IfOk result (λ text. text ≡ value_line value.now) }
+{
+    let mut text = Bytes::new(alloc);
+    push_value(&mut text, value)?;
+    text.push(b'\n')?;
+    Ok(text)
+}
+
+fn push_coded(text: &mut Bytes, name: &[u8], code: u8) -> Result<(), Memory>
+    ensures { OnOk result (text.new ≡ text.old ++ (name.now ++ hex (code ∷ []))) }
+{
+    text.push_slice(name)?;
+    push_hex(text, &[code])
+}
+
+fn push_placed(text: &mut Bytes, name: &[u8], byte: u32) -> Result<(), Memory>
+    ensures { OnOk result (text.new ≡ text.old ++ (name.now ++ field (codes "byte") byte)) }
+{
+    text.push_slice(name)?;
+    push_field(text, b"byte", u64::from(byte))
+}
+
+fn push_length(text: &mut Bytes, want: u64, got: u64) -> Result<(), Memory>
+    ensures { OnOk result (text.new ≡ text.old ++ (codes "fault length" ++ (field (codes "want") want ++ field (codes "got") got))) }
+{
+    text.push_slice(b"fault length")?;
+    push_field(text, b"want", want)?;
+    push_field(text, b"got", got)
+}
+
+fn push_fault(text: &mut Bytes, fault: Fault) -> Result<(), Memory>
+    ensures { OnOk result (text.new ≡ text.old ++ fault_text fault) }
+{
+    match fault {
+        Fault::OpCode { code } => push_coded(text, b"fault opcode ", code),
+        Fault::Length { want, got } => push_length(text, want, got),
+        Fault::Bits { byte } => push_placed(text, b"fault bits", u32::from(byte)),
+        Fault::Code { got } => push_coded(text, b"fault code ", got),
+        Fault::Field { byte } => push_placed(text, b"fault field", byte),
+    }
+}
+
+/// The line of a fault.
+pub fn fault_line(alloc: Global, fault: Fault) -> Result<Bytes, Memory>
+    ensures { IfOk result (λ text. text ≡ fault_line fault) }
+{
+    let mut text = Bytes::new(alloc);
+    push_fault(&mut text, fault)?;
+    text.push(b'\n')?;
+    Ok(text)
+}
