@@ -1,4 +1,5 @@
 ghost use Rattle.std.specs.Prelude.{◌≡◌, ◌≤◌, ◌+◌, length, take, IfOk, OnOk, IfSome, IsErrOf};
+ghost use Rattle.std.specs.Io.KnownBytes.{IsAtEnd};
 ghost use Rattle.outer_io.specs.Outside.{HasRisen};
 ghost use Rattle.outer_io.specs.Outside.{input_limit};
 
@@ -45,6 +46,8 @@ impl From<Failed> for InputFault {
 pub fn read_input<S: Source>(alloc: Global, source: &mut S) -> Result<Bytes, InputFault>
     ensures bytes { IfOk result (λ bytes. IfSome (S.left source.old) (λ left. bytes ≡ take (input_limit + 1) left)) }
     ensures bound { IfOk result (λ bytes. length bytes ≤ input_limit + 1) }
+    ensures end { IfOk result (λ bytes. length bytes ≤ input_limit → IsAtEnd (S.left source.new)) }
+    ensures never_falls { S.faults source.old ≤ S.faults source.new }
     ensures failed { IsErrOf result InputFault.Failed → HasRisen (S.faults source.old) (S.faults source.new) }
 {
     let mut bytes = Bytes::new(alloc);
