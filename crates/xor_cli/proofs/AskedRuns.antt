@@ -30,7 +30,7 @@ use Rattle.xor_cli.specs.Arrays.{Array}
 use Rattle.xor_cli.specs.Headline.{IsJournalOf}
 use Rattle.xor_cli.specs.Rest.{IsAtRest, IsAnswer}
 use Rattle.xor_cli.specs.Tasks.{read_task, write_task, HasServed}
-use Rattle.xor_cli.specs.Today.{CanRun, CanCall, CanDo}
+use Rattle.xor_cli.proofs.Today.{CanRun, CanCall, CanDo}
 use Rattle.xor_cli.proofs.Answered.{IsBegun, going-read, going-update}
 use Rattle.xor_cli.proofs.CleanRuns.{dirty-calm, no_medium_loss-calm}
 use Rattle.xor_cli.proofs.FirstCalls.{whole-blocks, all-get_or}

@@ -1,6 +1,6 @@
 -- A calm journal lists no stripe, and has no loss that no call made.
-use Rattle.std.specs.Prelude.{◌&&◌, if◌then◌else◌}
-use Rattle.std.proofs.Common.{◌≡◌, ℕ, ◌==◌, Bool, true, false, List, [], ◌∷◌, refl, ap, ◌∙◌, cond, Option, Some, None}
+use Rattle.std.specs.Prelude.{◌&&◌}
+use Rattle.std.proofs.Common.{◌≡◌, ℕ, ◌==◌, Bool, true, false, List, [], ◌∷◌, refl, ap, ◌∙◌, cond, Option, None}
 use Rattle.std.specs.List.{AllByRecursion, filter_map, cons_option}
 use Rattle.array_journal.specs.declared.entry.Entry.{Entry}
 use Rattle.array_journal.specs.declared.event.Event.{Event}
@@ -9,7 +9,7 @@ use Rattle.array_journal.specs.declared.setting.Setting.{Setting}
 use Rattle.array_journal.specs.Calm.{IsCalmEvent, IsCalmEntry}
 use Rattle.array_journal.specs.Commands.{task_of}
 use Rattle.array_journal.specs.Lists.{numbers}
-use Rattle.array_journal.specs.Listed.{Dirty, dirty, dirty_stripe, listed_after, listed_for, renews_parity}
+use Rattle.array_journal.specs.Listed.{dirty, dirty_stripe, listed_after, listed_for, renews_parity}
 use Rattle.xor_cli.specs.Headline.{is_medium_loss, HasNoMediumLoss}
 
 -- a choice of two that are one

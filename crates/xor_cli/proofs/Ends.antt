@@ -1,25 +1,26 @@
 -- Which statuses a command can end with.
-use Rattle.std.proofs.Common.{◌≡◌, ◌≢◌, ℕ, ◌⊎◌, List, [], ◌∷◌, sym, subst, ◌∙◌, ap, inl, inr, arith, Option, Some, None}
+use Rattle.std.proofs.Common.{◌≡◌, ◌≢◌, ℕ, ◌⊎◌, ◌≤◌, List, [], ◌∷◌, length, sym, subst, ◌∙◌, ap, inl, inr, arith, Option, Some, None}
 use Rattle.std.specs.Prelude.{IfSome}
-use Rattle.std.specs.Io.KnownBytes.{Appends}
+use Rattle.std.specs.Io.KnownBytes.{Appends, IsAtEnd}
 use Rattle.host_scripts.specs.declared.script.Script.{Script}
 use Rattle.array_journal.specs.declared.entry.Entry.{Entry}
 use Rattle.xor_cli.specs.declared.decoding.faults.Fault.{Fault}
 use Rattle.xor_cli.specs.declared.decoding.values.Value.{Value}
 use Rattle.xor_cli.specs.declared.refusals.Refusal.{Refusal}
 use Rattle.xor_cli.specs.declared.refusals.Excess.{Excess}
+use Rattle.xor_cli.specs.declared.refusals.Excess.TheVariants as excesses
 use Rattle.xor_cli.specs.declared.endings.Ending.TheVariants.{Stopped}
 use Rattle.xor_cli.specs.declared.endings.Stop.{Stop}
 use Rattle.xor_cli.specs.declared.endings.Stop.TheVariants.{Usage, ReadFault, Refused, Exceeded, Memory}
 use Rattle.xor_cli.specs.declared.words.Command.TheVariants.{Step, Decode}
-use Rattle.outer_io.specs.Outside.{HasRisen, AppendsPrefix}
+use Rattle.outer_io.specs.Outside.{HasRisen, AppendsPrefix, input_limit}
 use Rattle.xor_cli.specs.Words.{SpellsNone, IsStep, IsCommand}
 use Rattle.xor_cli.specs.DecodeTexts.{value_line, fault_line}
 use Rattle.xor_cli.specs.RefusalTexts.{refusal_line, excess_line}
 use Rattle.xor_cli.specs.Inputs.{IsAccepted, IsRefused, IsLater, IsExcess}
 use Rattle.xor_cli.specs.Endings.{IsRefusalNoted, IsExcessNoted, IsOutput, IsDone, IsCutShort, IsOneOf}
-use Rattle.xor_cli.specs.Statuses.{StopsFor, IsStopWith, IsMadeOf, status_of, note_of, noted_for, later_refusal}
-use Rattle.xor_cli.proofs.Known.{Appends-none}
+use Rattle.xor_cli.specs.Statuses.{StopsFor, IsStopWith, IsLeftBy, IsNoteCutShort, IsMadeOf, status_of, note_of, noted_for, later_refusal}
+use Rattle.std.proofs.KnownBytes.{Appends-nil}
 use Rattle.xor_cli.proofs.WordLaws.{step-apart}
 use Rattle.xor_cli.proofs.Inputs.{accepted-refused, accepted-excess, refused-excess, refused-one, excess-one}
 
@@ -31,7 +32,7 @@ HandedOut status before after text = ((status ≡ 0) × Appends before after tex
 
 -- nothing is noted of what was done
 pub noted-done : (known : Option (List ℕ)) (status : ℕ) → status ≡ 0 → Appends known known (noted_for status)
-noted-done known status e = let P : ℕ → Type 0 = λ s. Appends known known (noted_for s) in subst P (sym e) (Appends-none known)
+noted-done known status e = let P : ℕ → Type 0 = λ s. Appends known known (noted_for s) in subst P (sym e) (Appends-nil known)
 
 -- what was made was asked for
 pub made-command : (words : List (List ℕ)) (left : Option (List ℕ)) (journal : List Entry) (text : List ℕ) → IsOutput words left journal text → IsCommand words
@@ -76,6 +77,18 @@ made-done words left before after status rb ra journal kept text made same (inr 
 pub made-cut_short : (words : List (List ℕ)) (left before after : Option (List ℕ)) (status rb ra : ℕ) (journal kept : List Entry) (text : List ℕ) → IsOutput words left journal text → kept ≡ journal → WrittenOut status before after text rb ra → status ≡ 4 → HasRisen rb ra × IsCutShort words left before after kept
 made-cut_short words left before after status rb ra journal kept text made same (inl e) four = absurd (omega (arith, e.0, four))
 made-cut_short words left before after status rb ra journal kept text made same (inr e) four = (e.1, (text, (output-kept words left journal kept text made same, e.2)))
+
+-- an input that was run ends with what became of writing its text
+pub made-runs : (left before after : Option (List ℕ)) (status rb ra : ℕ) (text : List ℕ) → WrittenOut status before after text rb ra → IfSome left (λ input. (script : Script) → IsAccepted input script → IsOneOf (0 ∷ 3 ∷ 4 ∷ 5 ∷ []) status)
+made-runs None before after status rb ra text e = tt
+made-runs (Some input) before after status rb ra text (inl e) = λ script accepted. inl e.0
+made-runs (Some input) before after status rb ra text (inr e) = λ script accepted. inr (inr (inl e.0))
+
+pub made-complete : (left before after : Option (List ℕ)) (status sb sa rb ra nb na : ℕ) (text : List ℕ) → WrittenOut status before after text rb ra
+    → IfSome left (λ input. (script : Script) → IsAccepted input script → ¬ HasRisen sb sa → ¬ HasRisen rb ra → ¬ HasRisen nb na → IsOneOf (0 ∷ 5 ∷ []) status)
+made-complete None before after status sb sa rb ra nb na text e = tt
+made-complete (Some input) before after status sb sa rb ra nb na text (inl e) = λ script accepted read written note. inl e.0
+made-complete (Some input) before after status sb sa rb ra nb na text (inr e) = λ script accepted read written note. absurd (written e.1)
 
 -- ---- a command that was stopped
 
@@ -264,3 +277,51 @@ stop-noted status ReadFault old new (inl e) two seven four = let P : ℕ → Typ
 stop-noted status (Refused note) old new (inl e) two seven four = absurd (two e.0)
 stop-noted status (Exceeded excess) old new (inl e) two seven four = absurd (seven e.0)
 stop-noted status Memory old new (inl e) two seven four = let P : ℕ → Type 0 = λ n. Appends old new (noted_for n) in subst P (sym e.0) e.1
+
+-- ---- what is read, and what is noted where that fails
+
+-- what holds, holds of an input that isn't too long
+pub in-limit : (left : Option (List ℕ)) (P : Type 0) → P → IfSome left (λ input. length input ≤ input_limit → P)
+in-limit None P p = tt
+in-limit (Some input) P p = λ short. p
+
+-- a status that is none of these
+not-read : (status n : ℕ) → status ≡ n → n ≢ 0 → n ≢ 2 → n ≢ 7 → IsOneOf (0 ∷ 2 ∷ 7 ∷ []) status → ⊥
+not-read status n e zero two seven (inl a) = zero (sym e ∙ a)
+not-read status n e zero two seven (inr (inl a)) = two (sym e ∙ a)
+not-read status n e zero two seven (inr (inr (inl a))) = seven (sym e ∙ a)
+not-read status n e zero two seven (inr (inr (inr none))) = absurd none
+
+-- where an input that isn't too long was to be run, a stop with these statuses leaves nothing of it
+stop-whole : (words : List (List ℕ)) (input : List ℕ) (rest : Option (List ℕ)) (before after status : ℕ) (stop : Stop) (old new : Option (List ℕ)) → StopsFor words (Some input) before after stop → IsLeftBy stop rest → NotedStop status stop old new
+    → IsOneOf (0 ∷ 2 ∷ 7 ∷ []) status → length input ≤ input_limit → IsAtEnd rest
+stop-whole words input rest before after status Usage old new s left (inl e) one short = absurd (not-read status 64 e.0 (λ a. cc a) (λ a. cc a) (λ a. cc a) one)
+stop-whole words input rest before after status ReadFault old new s left (inl e) one short = absurd (not-read status 3 e.0 (λ a. cc a) (λ a. cc a) (λ a. cc a) one)
+stop-whole words input rest before after status (Refused note) old new s left (inl e) one short = left
+stop-whole words input rest before after status (Exceeded excesses.Input) old new s left (inl e) one short = absurd (omega (arith, s.1, short))
+stop-whole words input rest before after status (Exceeded (excesses.Script limit)) old new s left (inl e) one short = left
+stop-whole words input rest before after status Memory old new s left (inl e) one short = absurd (not-read status 5 e.0 (λ a. cc a) (λ a. cc a) (λ a. cc a) one)
+stop-whole words input rest before after status stop old new s left (inr e) one short = absurd (not-read status 4 e (λ a. cc a) (λ a. cc a) (λ a. cc a) one)
+
+pub stop-read_whole : (words : List (List ℕ)) (left rest : Option (List ℕ)) (before after status : ℕ) (stop : Stop) (old new : Option (List ℕ)) → StopsFor words left before after stop → IsLeftBy stop rest → NotedStop status stop old new
+    → IsOneOf (0 ∷ 2 ∷ 7 ∷ []) status → IfSome left (λ input. length input ≤ input_limit → IsAtEnd rest)
+stop-read_whole words None rest before after status stop old new s by e one = tt
+stop-read_whole words (Some input) rest before after status stop old new s by e one = stop-whole words input rest before after status stop old new s by e one
+
+-- what becomes of writing a note
+abbrev pub WrittenNote : ℕ → Stop → Option (List ℕ) → Option (List ℕ) → ℕ → ℕ → Type 0
+WrittenNote status stop before after risen_before risen_after =
+    ((status ≡ status_of (Stopped stop)) × Appends before after (note_of stop)) ⊎ ((status ≡ 4) × HasRisen risen_before risen_after × AppendsPrefix before after (note_of stop))
+
+-- a stop itself doesn't end with a write fault
+not-four : (stop : Stop) → status_of (Stopped stop) ≢ 4
+not-four Usage = λ a. cc a
+not-four ReadFault = λ a. cc a
+not-four (Refused note) = λ a. cc a
+not-four (Exceeded excess) = λ a. cc a
+not-four Memory = λ a. cc a
+
+pub stop-cut_short : (words : List (List ℕ)) (left : Option (List ℕ)) (before after status : ℕ) (stop : Stop) (old new : Option (List ℕ)) (rb ra : ℕ) → StopsFor words left before after stop → WrittenNote status stop old new rb ra → status ≡ 4
+    → HasRisen rb ra × IsNoteCutShort words left before after old new
+stop-cut_short words left before after status stop old new rb ra s (inl e) four = absurd (not-four stop (sym e.0 ∙ four))
+stop-cut_short words left before after status stop old new rb ra s (inr e) four = (e.1, (stop, (s, e.2)))

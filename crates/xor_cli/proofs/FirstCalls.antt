@@ -22,7 +22,7 @@ use Rattle.array_journal.specs.Run.{IsSetting}
 use Rattle.array_journal.proofs.CalmServed.{calm-none}
 use Rattle.array_journal.proofs.LayoutLaws.{target_of-other}
 use Rattle.xor_cli.specs.Tasks.{task_at, CanServe}
-use Rattle.xor_cli.specs.Today.{CanRun, CanCall, CanDo}
+use Rattle.xor_cli.proofs.Today.{CanRun, CanCall, CanDo}
 use Rattle.xor_cli.specs.Disks.{Disk}
 use Rattle.xor_cli.specs.Rest.{IsRest}
 use Rattle.stripe_check.specs.Reports.{setting_of}

@@ -15,7 +15,8 @@ use Rattle.xor_cli.specs.declared.refusals.Excess.{Excess}
 use Rattle.xor_cli.specs.declared.refusals.Excess.TheVariants as excesses
 use Rattle.xor_cli.specs.RefusalTexts.{reason_of}
 use Rattle.xor_cli.specs.Later.{first_later}
-use Rattle.xor_cli.specs.Inputs.{IsAccepted, IsUnspelt, IsRefusedFor, IsRefused, IsLater, IsExcess, input_limit}
+use Rattle.outer_io.specs.Outside.{input_limit}
+use Rattle.xor_cli.specs.Inputs.{IsAccepted, IsUnspelt, IsRefusedFor, IsRefused, IsLater, IsExcess}
 use Rattle.xor_cli.specs.Statuses.{later_refusal}
 
 -- bytes spell one script at most

@@ -9,11 +9,13 @@ use Rattle.host_scripts.specs.declared.script.Script.{Script}
 use Rattle.host_scripts.specs.declared.script.Call.{Call}
 use Rattle.host_scripts.specs.declared.script.Action.{Action}
 use Rattle.host_scripts.specs.declared.script.Action.TheVariants.{Read, Write, Fill, Raw, Lose, Reset, DropNext, Replace, Rebuild, Resync}
-use Rattle.host_scripts.specs.Scripts.{IsScript}
 use Rattle.array_journal.specs.Acts.{is_third_party}
 use Rattle.stripe_check.specs.Cuts.{most_blocks}
-use Rattle.xor_cli.specs.Later.{is_one_piece, can_do, can_call, later_call, first_later}
-use Rattle.xor_cli.specs.Today.{AreOnePiece, CanDo, CanCall, CanRun}
+use Rattle.stripe_check.specs.Reports.{setting_of}
+use Rattle.xor_cli.specs.Inputs.{IsRunnable}
+use Rattle.xor_cli.specs.Headline.{IsStart}
+use Rattle.xor_cli.specs.Later.{is_one_piece, can_do, can_call, later_call}
+use Rattle.xor_cli.proofs.Today.{AreOnePiece, CanDo, CanCall, CanRun}
 
 -- nothing is left where the choice says so
 left-none : (b : Bool) (n : ℕ) (other : Option ℕ) → cond b (Some n) other ≡ None → (b ≡ false) × (other ≡ None)
@@ -67,13 +69,19 @@ unordered : (order : List ℕ) → not (length order == 0) ≡ false → order �
 unordered [] e = refl
 unordered (h ∷ hosts) e = let none : length (h ∷ hosts) ≡ 0 = eqb-true (length (h ∷ hosts)) 0 (not-false (length (h ∷ hosts) == 0) e) in absurd (omega (arith, none))
 
-pub runs-today : (s : Script) → IsScript s → first_later s ≡ None → CanRun s
-runs-today s script e =
-    let mode = left-none (is_third_party s.mode) 8 _ e in
+pub runs-today : (s : Script) → IsRunnable s → CanRun s
+runs-today s is =
+    let mode = left-none (is_third_party s.mode) 8 _ is.2 in
     let turns = left-none (not (length s.order == 0)) 11 _ mode.1 in
     record {
-      in_range = script;
+      in_range = is.0;
       supervised = supervised s.mode mode.0;
       unordered = unordered s.order turns.0;
       calls = calls-today s 11 s.calls turns.1;
     }
+
+-- its array is one in which the controller moves the deltas
+pub starts-today : (s : Script) → IsRunnable s → IsStart (setting_of s)
+starts-today s is =
+    let mode = left-none (is_third_party s.mode) 8 _ is.2 in
+    (record { array = is.0.geometry; least_buffer = is.0.least_buffer; most_buffer = is.0.most_buffer }, mode.0)

@@ -1,9 +1,9 @@
-pub mod Known
 pub mod Digits
 pub mod WordLaws
 pub mod Answering
 pub mod Pieces
 pub mod Inputs
+pub mod Today
 pub mod Laters
 pub mod Work
 pub mod Ends

@@ -2,6 +2,7 @@
 use Rattle.std.proofs.Common.{◌≡◌, ℕ, ◌+◌, ◌≤◌, Bool, List, length, take, refl, ap, sym, subst, ◌∙◌, inl, inr, length-take, arith, Option, Some, None}
 use Rattle.std.proofs.lemmas.List.{take_all}
 use Rattle.std.specs.Prelude.{IfSome}
+use Rattle.std.specs.Io.KnownBytes.{IsAtEnd}
 use Rattle.host_scripts.specs.declared.script.Script.{Script}
 use Rattle.host_scripts.specs.declared.script.Cause.{Cause}
 use Rattle.host_scripts.specs.declared.script.Cause.TheVariants as causes
@@ -21,8 +22,9 @@ use Rattle.xor_cli.specs.Decoding.{IsValue, IsFault}
 use Rattle.xor_cli.specs.RefusalTexts.{reason_of, refusal_line}
 use Rattle.xor_cli.specs.Words.{Spells}
 use Rattle.xor_cli.specs.Later.{first_later}
-use Rattle.xor_cli.specs.Inputs.{IsSpelt, IsAccepted, IsRefused, IsExcess, input_limit}
-use Rattle.xor_cli.specs.Statuses.{StopsFor, StopsStep, StopsRun, StopsScript, IsStopWith, later_refusal}
+use Rattle.xor_cli.specs.Inputs.{IsSpelt, IsAccepted, IsRefused, IsExcess}
+use Rattle.outer_io.specs.Outside.{input_limit}
+use Rattle.xor_cli.specs.Statuses.{StopsFor, StopsStep, StopsRun, StopsScript, IsStopWith, IsLeftBy, later_refusal}
 use Rattle.xor_cli.proofs.Inputs.{refused-bound}
 
 -- ---- from what was read to what the source had left
@@ -54,6 +56,15 @@ stops-step left bytes before after ReadFault e s = absurd s
 stops-step left bytes before after (Refused note) e s = (s.0, (refused-left left bytes s.0 e s.1.0, s.1.1))
 stops-step left bytes before after (Exceeded excess) e s = excess-left left bytes excess e s
 stops-step left bytes before after Memory e s = tt
+
+-- where the bytes that were read aren't too many, they are all that the source had; what stops a run of them leaves nothing
+pub stops-left : (left : Option (List ℕ)) (bytes : List ℕ) (stop : Stop) → (length bytes ≤ input_limit → IsAtEnd left) → StopsRun bytes stop → IsLeftBy stop left
+stops-left left bytes Usage end s = tt
+stops-left left bytes ReadFault end s = tt
+stops-left left bytes (Refused note) end s = end (refused-bound bytes s.0.line s.0.reason s.1.0)
+stops-left left bytes (Exceeded excesses.Input) end s = tt
+stops-left left bytes (Exceeded (excesses.Script limit)) end s = end s.1.0.0
+stops-left left bytes Memory end s = tt
 
 -- what stops a run of the source stops the command
 pub stops-for : (words : List (List ℕ)) (traced : Bool) (left : Option (List ℕ)) (before after : ℕ) (stop : Stop) → Spells words (Step traced) → StopsStep left before after stop → StopsFor words left before after stop

@@ -1,6 +1,6 @@
 -- What a fault of the input makes of a command.
-use Rattle.xor_cli.specs.declared.input.InputFault.{InputFault}
-use Rattle.xor_cli.specs.declared.input.InputFault.TheVariants as faults
+use Rattle.outer_io.specs.declared.input.InputFault.{InputFault}
+use Rattle.outer_io.specs.declared.input.InputFault.TheVariants as faults
 use Rattle.xor_cli.specs.declared.endings.Stop.{Stop}
 use Rattle.xor_cli.specs.declared.endings.Stop.TheVariants.{ReadFault, Memory}
 

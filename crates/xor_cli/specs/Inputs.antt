@@ -7,16 +7,13 @@ use Rattle.host_scripts.specs.declared.script.Cause.TheVariants as causes
 use Rattle.host_scripts.specs.Scripts.{Spells, IsScript}
 use Rattle.host_scripts.specs.Refusals.{IsRefusal}
 use Rattle.host_scripts.specs.Limits.{limit_of}
+use Rattle.outer_io.specs.Outside.{input_limit}
 use Rattle.xor_cli.specs.declared.refusals.Reason.{Reason}
 use Rattle.xor_cli.specs.declared.refusals.Reason.TheVariants as reasons
 use Rattle.xor_cli.specs.declared.refusals.Refusal.{Refusal}
 use Rattle.xor_cli.specs.declared.refusals.Excess.{Excess}
 use Rattle.xor_cli.specs.declared.refusals.Excess.TheVariants as excesses
 use Rattle.xor_cli.specs.Later.{first_later}
-
--- the most bytes of an input
-abbrev pub input_limit : ℕ
-input_limit = 50331648
 
 -- the input is no longer than that, and spells this script
 abbrev pub IsSpelt : List ℕ → Script → Type 0

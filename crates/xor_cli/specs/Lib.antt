@@ -14,6 +14,5 @@ pub mod OneJournal
 pub mod Arrays
 pub mod Serving
 pub mod Tasks
-pub mod Today
 pub mod Rest
 pub mod Later

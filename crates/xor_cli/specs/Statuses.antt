@@ -1,5 +1,6 @@
 -- How commands end, and what stops one before it writes.
 use Rattle.std.specs.Prelude.{ℕ, ◌≡◌, ◌⊎◌, ◌==◌, Bool, List, [], codes, Option, Some, None, IfSome, if◌then◌else◌}
+use Rattle.std.specs.Io.KnownBytes.{IsAtEnd}
 use Rattle.host_scripts.specs.declared.script.Script.{Script}
 use Rattle.host_scripts.specs.declared.script.Limit.{Limit}
 use Rattle.host_scripts.specs.Scripts.{line}
@@ -15,7 +16,7 @@ use Rattle.xor_cli.specs.declared.endings.Stop.TheVariants.{Usage, ReadFault, Re
 use Rattle.xor_cli.specs.declared.refusals.Reason.TheVariants as reasons
 use Rattle.xor_cli.specs.declared.refusals.Refusal.{Refusal}
 use Rattle.xor_cli.specs.declared.refusals.Excess.TheVariants as excesses
-use Rattle.outer_io.specs.Outside.{HasRisen}
+use Rattle.outer_io.specs.Outside.{HasRisen, AppendsPrefix}
 use Rattle.xor_cli.specs.Words.{SpellsNone, IsStep, IsCommand}
 use Rattle.xor_cli.specs.Decoding.{IsFault}
 use Rattle.xor_cli.specs.DecodeTexts.{value_line, fault_line}
@@ -99,6 +100,20 @@ StopsFor words input before after ReadFault = IsStep words × HasRisen before af
 StopsFor words input before after (Refused note) = IsRefusal words input note
 StopsFor words input before after (Exceeded excess) = IsStep words × IfSome input (λ bytes. IsExcess bytes excess)
 StopsFor words input before after Memory = IsCommand words
+
+-- what is left of the input of a run that is stopped so: nothing, unless a read failed, memory ran out or there was too much
+abbrev pub IsLeftBy : Stop → Option (List ℕ) → Type 0
+IsLeftBy Usage left = Unit {0}
+IsLeftBy ReadFault left = Unit {0}
+IsLeftBy (Refused note) left = IsAtEnd left
+IsLeftBy (Exceeded excesses.Input) left = Unit {0}
+IsLeftBy (Exceeded (excesses.Script limit)) left = IsAtEnd left
+IsLeftBy Memory left = Unit {0}
+
+-- notes have gained a beginning of the line that goes with what stops a command
+abbrev pub IsNoteCutShort : List (List ℕ) → Option (List ℕ) → ℕ → ℕ → Option (List ℕ) → Option (List ℕ) → Type 0
+IsNoteCutShort words input before after old new =
+    (stop : Stop) × (StopsFor words input before after stop × AppendsPrefix old new (note_of stop))
 
 -- a journal of a run, and its text
 abbrev pub IsMade : Bool → Script → List Entry → List ℕ → Type 0

@@ -1,9 +1,9 @@
 ghost use Rattle.std.specs.Prelude.{◌≡◌};
 ghost use Rattle.xor_cli.specs.Statuses.{status_of, note_of};
 
-use crate::input::InputFault;
 use crate::refusals::{Excess, excess_line};
 use blocks_core::{Bytes, Memory};
+use outer_io::InputFault;
 
 /// What stops a command before it has anything to write.
 #[derive(Debug, Drop)]

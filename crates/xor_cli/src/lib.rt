@@ -5,7 +5,6 @@
 mod array;
 mod decoding;
 mod endings;
-mod input;
 mod later;
 mod numerals;
 mod refusals;
@@ -15,6 +14,5 @@ mod text;
 mod top;
 mod words;
 mod working;
-mod writing;
 
 pub use top::{Outcome, tool};

@@ -6,8 +6,11 @@ use outer_io::{
 use std::alloc::{AllocError, Global};
 use std::test::Fail;
 
-const HEADER: &str =
-    "xorscript 1\ntargets 3\nblock 8\nunit 1\nstripes 2\nbuffer 4\nmaxima 0 0 0\nmode supervised\nseed 1\nhosts 2\n";
+/// Three targets, and two stripes of one block in each.
+const SIZES: &str = "targets 3\nblock 8\nunit 1\nstripes 2\nbuffer 4\n";
+
+/// What stands in each header behind the sizes.
+const SETTING: &str = "maxima 0 0 0\nmode supervised\nseed 1\nhosts 2\n";
 
 const CALLS: &str = "A write 0 0102030405060708\nA read 0 1\n";
 
@@ -21,9 +24,14 @@ fn words_of(alloc: Global, words: &[&str]) -> Result<Vec<String>, AllocError> {
         .try_collect(alloc)
 }
 
+/// The bytes of a script with these lines of sizes and calls.
+fn sized_script(alloc: Global, sizes: &str, calls: &str) -> Result<Vec<u8>, AllocError> {
+    Ok(format!(in alloc; "xorscript 1\n{sizes}{SETTING}{calls}")?.into_bytes())
+}
+
 /// The bytes of a script with these call lines.
 fn script_of(alloc: Global, calls: &str) -> Result<Vec<u8>, AllocError> {
-    Ok(format!(in alloc; "{HEADER}{calls}")?.into_bytes())
+    sized_script(alloc, SIZES, calls)
 }
 
 /// Words, what they write, what they note, and the status.
@@ -113,7 +121,7 @@ fn decodes(rt: HostRuntime) -> Result<(), Fail> {
 }
 
 /// Words, call lines, what is noted of them, and the status.
-const REFUSED: [Row; 9] = [
+const REFUSED: [Row; 10] = [
     (&[], "", "usage\n", 64),
     (&["steps"], "", "usage\n", 64),
     (&["step", "step"], "", "usage\n", 64),
@@ -125,6 +133,12 @@ const REFUSED: [Row; 9] = [
         2,
     ),
     (&["step"], "A read 0 1", "refused line 11 form\n", 2),
+    (
+        &["step"],
+        "A write 0 0102030405060708\nA read 0 1",
+        "refused line 12 form\n",
+        2,
+    ),
     (&["step"], "A write 0 01\n", "refused line 11 size\n", 2),
     (&["step"], "A read 0 65536\n", "refused line 11 range\n", 2),
     (&["step", "--trace"], "\n", "refused line 11 form\n", 2),
@@ -144,6 +158,59 @@ fn refusals(rt: HostRuntime) -> Result<(), Fail> {
         assert_eq!(rt; out.bytes(), b"".as_slice(), "{calls}");
         assert_eq!(rt; notes.bytes(), note.as_bytes(), "{calls}");
         assert_eq!(rt; outcome.journal.len(), 0, "{calls}");
+    }
+    Ok(())
+}
+
+/// One pass more than a script may have.
+const PASSES: &str = "A resync\nA resync\nA resync\nA resync\nA resync\nA resync\n\
+A resync\nA resync\nA resync\nA resync\nA resync\nA resync\n\
+A resync\nA resync\nA resync\nA resync\nA resync\n";
+
+/// Lines of sizes, call lines, what is noted of them, and the status.
+const SIZED: [(&str, &str, &str, u8); 5] = [
+    (
+        "targets 2\nblock 8\nunit 1\nstripes 2\nbuffer 4\n",
+        "",
+        "refused line 2 range\n",
+        2,
+    ),
+    (
+        "targets 3\nblock 8\nunit 1\nstripes 2\nbuffer 0\n",
+        "",
+        "refused line 6 range\n",
+        2,
+    ),
+    (
+        "targets 3\nblock 4096\nunit 4096\nstripes 1\nbuffer 4096\n",
+        "A read 0 8192\n",
+        "limit moved\n",
+        7,
+    ),
+    (
+        "targets 3\nblock 8\nunit 4096\nstripes 4096\nbuffer 4096\n",
+        "",
+        "limit media\n",
+        7,
+    ),
+    (SIZES, PASSES, "limit passes\n", 7),
+];
+
+// Sizes out of their range, and limits that are passed; the source is read to its end.
+#[test]
+fn sizes(rt: HostRuntime) -> Result<(), Fail> {
+    let alloc = rt.alloc();
+    for (sizes, calls, note, status) in SIZED {
+        let words = words_of(alloc, &["step"])?;
+        let mut source = MemorySource::new(sized_script(alloc, sizes, calls)?);
+        let mut out = MemorySink::new(alloc, ROOM)?;
+        let mut notes = MemorySink::new(alloc, ROOM)?;
+        let outcome = tool(alloc, &words, &mut source, &mut out, &mut notes);
+        assert_eq!(rt; outcome.status, status, "{note}");
+        assert_eq!(rt; out.bytes(), b"".as_slice(), "{note}");
+        assert_eq!(rt; notes.bytes(), note.as_bytes(), "{note}");
+        assert_eq!(rt; outcome.journal.len(), 0, "{note}");
+        assert_eq!(rt; source.read(&mut [0; 1]), Ok(0), "{note}");
     }
     Ok(())
 }
@@ -210,6 +277,7 @@ fn adapters(rt: HostRuntime) -> Result<(), Fail> {
     assert_eq!(rt; full.write(b"abc"), Err(Failed));
     Ok(())
 }
+
 /// A report of one read, and its trace.
 const READ: &str = "1 A good 0000000000000000\nentries 3\nstripes 2 zero 2 listed 0 absent 0\n";
 
@@ -218,7 +286,7 @@ const READ_TRACE: &str = "1 0 open 0 1 0 read 0 0 2 0 1 -\n\
 3 0 close 0 1 2.1 - -\n";
 
 /// Words, call lines, the report, the trace behind it, and how many entries the journal has.
-const RUN: [(&[&str], &str, &str, &str, usize); 4] = [
+const RUN: [(&[&str], &str, &str, &str, usize); 5] = [
     (
         &["step"],
         CALLS,
@@ -232,6 +300,13 @@ const RUN: [(&[&str], &str, &str, &str, usize); 4] = [
         "entries 0\nstripes 2 zero 2 listed 0 absent 0\n",
         "",
         0,
+    ),
+    (
+        &["step"],
+        "A write 0 0102030405060708\nA write 0 0102030405060708\n",
+        "1 A good\n2 A good\nentries 10\nstripes 2 zero 2 listed 0 absent 0\n",
+        "",
+        10,
     ),
     (&["step"], "A read 0 1\n", READ, "", 3),
     (&["step", "--trace"], "A read 0 1\n", READ, READ_TRACE, 3),
@@ -252,6 +327,7 @@ fn scripts_run(rt: HostRuntime) -> Result<(), Fail> {
         assert_eq!(rt; out.bytes(), text.as_str().as_bytes(), "{calls}");
         assert_eq!(rt; notes.bytes(), b"".as_slice(), "{calls}");
         assert_eq!(rt; outcome.journal.len(), entries, "{calls}");
+        assert_eq!(rt; source.read(&mut [0; 1]), Ok(0), "{calls}");
     }
     Ok(())
 }

@@ -1,5 +1,5 @@
-ghost use Rattle.std.specs.Prelude.{ℕ, List, ◌≡◌, ◌≢◌, ◌⊎◌, [], ◌∷◌, IfSome};
-ghost use Rattle.std.specs.Io.KnownBytes.{Appends};
+ghost use Rattle.std.specs.Prelude.{ℕ, List, ◌≡◌, ◌≢◌, ◌⊎◌, [], ◌∷◌, ◌≤◌, length, IfSome};
+ghost use Rattle.std.specs.Io.KnownBytes.{Appends, IsAtEnd};
 ghost use Rattle.host_scripts.specs.declared.script.Script.{Script};
 ghost use Rattle.xor_cli.specs.declared.decoding.faults.Fault.{Fault};
 ghost use Rattle.xor_cli.specs.declared.decoding.values.Format.{Format};
@@ -10,17 +10,16 @@ ghost use Rattle.xor_cli.specs.declared.words.Command.TheVariants as commands;
 ghost use Rattle.xor_cli.specs.Decoding.{IsValue, IsFault};
 ghost use Rattle.xor_cli.specs.DecodeTexts.{value_line, fault_line};
 ghost use Rattle.xor_cli.specs.RefusalTexts.{refusal_line, excess_line};
-ghost use Rattle.outer_io.specs.Outside.{HasRisen, AppendsPrefix};
+ghost use Rattle.outer_io.specs.Outside.{HasRisen, AppendsPrefix, input_limit};
 ghost use Rattle.xor_cli.specs.Words.{texts, Spells, SpellsNone, IsStep, IsCommand};
 ghost use Rattle.xor_cli.specs.Inputs.{IsAccepted, IsRefused, IsLater, IsExcess};
 ghost use Rattle.xor_cli.specs.Endings.{IsOneOf, IsDone, IsCutShort, IsRefusalNoted, IsExcessNoted};
-ghost use Rattle.xor_cli.specs.Statuses.{status_of, note_of, noted_for, later_refusal};
+ghost use Rattle.xor_cli.specs.Statuses.{status_of, note_of, noted_for, later_refusal, IsNoteCutShort};
 
 use crate::endings::{Ending, Stop};
 use crate::working::{Made, work};
-use crate::writing::write_all;
 use array_journal::Journal;
-use outer_io::{Sink, Source};
+use outer_io::{Sink, Source, write_all};
 use std::alloc::Global;
 
 /// What a command came to: the status that its process ends with, and the journal of what it ran.
@@ -53,8 +52,10 @@ pub fn tool<S: Source, K: Sink, N: Sink>(
     ensures write_fault { result.status ≡ 4 →
         (HasRisen (K.faults out.old) (K.faults out.new)
         × IsCutShort (texts words.now) (S.left source.old) (K.written out.old) (K.written out.new) result.journal
-        × (N.written notes.new ≡ N.written notes.old))
+        × (N.written notes.new ≡ N.written notes.old)
+        × (IsStep (texts words.now) → IsAtEnd (S.left source.new)))
         ⊎ (HasRisen (N.faults notes.old) (N.faults notes.new)
+        × IsNoteCutShort (texts words.now) (S.left source.old) (S.faults source.old) (S.faults source.new) (N.written notes.old) (N.written notes.new)
         × (K.written out.new ≡ K.written out.old)
         × (result.journal ≡ [])) }
     ensures no_memory { result.status ≡ 5 → IsCommand (texts words.now) }
@@ -103,9 +104,13 @@ pub fn tool<S: Source, K: Sink, N: Sink>(
         ¬ HasRisen (N.faults notes.old) (N.faults notes.new) →
         IsOneOf (0 ∷ 5 ∷ []) result.status }
 
-    // What else is written and read, and kept.
-    ensures unread { (format : Format) (bytes : List ℕ) → Spells (texts words.now) (commands.Decode format bytes) →
+    // What is read: all that there is, where a run is asked for and the input isn't too long; and else nothing.
+    ensures read_whole { IsStep (texts words.now) → IsOneOf (0 ∷ 2 ∷ 7 ∷ []) result.status →
+        IfSome (S.left source.old) (λ input. length input ≤ input_limit → IsAtEnd (S.left source.new)) }
+    ensures unread { ¬ IsStep (texts words.now) →
         (S.left source.new ≡ S.left source.old) × (S.faults source.new ≡ S.faults source.old) }
+
+    // What else is written, and kept.
     ensures unwritten { result.status ≢ 0 → result.status ≢ 4 →
         (K.written out.new ≡ K.written out.old) × (result.journal ≡ []) }
     ensures noted { result.status ≢ 2 → result.status ≢ 7 → result.status ≢ 4 →
@@ -142,7 +147,9 @@ fn hand_out<K: Sink>(out: &mut K, made: Made) -> Outcome
 fn hand_note<N: Sink>(alloc: Global, notes: &mut N, stop: Stop) -> Outcome
     ensures status { ((result.status ≡ status_of (Ending.Stopped stop))
         × Appends (N.written notes.old) (N.written notes.new) (note_of stop))
-        ⊎ ((result.status ≡ 4) × HasRisen (N.faults notes.old) (N.faults notes.new)) }
+        ⊎ ((result.status ≡ 4)
+        × HasRisen (N.faults notes.old) (N.faults notes.new)
+        × AppendsPrefix (N.written notes.old) (N.written notes.new) (note_of stop)) }
     ensures journal { result.journal ≡ [] }
 {
     let journal = Journal::new(alloc);

@@ -1,4 +1,5 @@
 ghost use Rattle.std.specs.Prelude.{ℕ, List, ◌≡◌, ◌≤◌, ◌<◌, ◌+◌, ◌^◌, length, None, IfOk, IfErr, OnOk, IfSome, MatchResult};
+ghost use Rattle.std.specs.Io.KnownBytes.{IsAtEnd};
 ghost use Rattle.host_scripts.specs.declared.script.Script.{Script};
 ghost use Rattle.host_scripts.specs.Scripts.{IsScript, Spells as spells_script};
 ghost use Rattle.host_scripts.specs.Limits.{limit_of};
@@ -9,23 +10,23 @@ ghost use Rattle.xor_cli.specs.declared.words.Command.TheVariants as commands;
 ghost use Rattle.xor_cli.specs.Decoding.{IsValue, IsFault};
 ghost use Rattle.xor_cli.specs.DecodeTexts.{fault_line};
 ghost use Rattle.xor_cli.specs.RefusalTexts.{refusal_line};
-ghost use Rattle.xor_cli.specs.Words.{texts, Spells};
+ghost use Rattle.xor_cli.specs.Words.{texts, Spells, IsStep};
 ghost use Rattle.xor_cli.specs.Later.{first_later};
-ghost use Rattle.xor_cli.specs.Inputs.{IsRunnable, IsAccepted, input_limit};
+ghost use Rattle.outer_io.specs.Outside.{input_limit};
+ghost use Rattle.xor_cli.specs.Inputs.{IsRunnable, IsAccepted};
 ghost use Rattle.xor_cli.specs.Endings.{IsOutput, step_text};
-ghost use Rattle.xor_cli.specs.Statuses.{StopsFor, StopsStep, StopsRun, StopsScript, StopsDecode, IsStopWith, IsMade, IsMadeOf};
+ghost use Rattle.xor_cli.specs.Statuses.{StopsFor, StopsStep, StopsRun, StopsScript, StopsDecode, IsStopWith, IsLeftBy, IsMade, IsMadeOf};
 
 use crate::array::run;
 use crate::decoding::{Fault, Format, Undecoded, Value, fault_line, value_line, value_of};
 use crate::endings::Stop;
-use crate::input::{READ_LIMIT, read_input};
 use crate::later::first_later;
 use crate::refusals::{Excess, Reason, Refusal, reason_of, refusal_line};
 use crate::words::{Command, command_of};
 use array_journal::Journal;
 use blocks_core::{Bytes, Memory};
 use host_scripts::{Script, ScriptFault, over, parse};
-use outer_io::Source;
+use outer_io::{READ_LIMIT, Source, read_input};
 use std::alloc::Global;
 use stripe_check::{report, trace};
 
@@ -45,8 +46,9 @@ pub fn work<S: Source>(alloc: Global, words: &[String], source: &mut S) -> Resul
         IsValue format bytes value → MatchResult result (λ made. IsMadeOf value made.journal made.text) (λ stop. stop ≡ Stop.Memory) }
     ensures faults { (format : Format) (bytes : List ℕ) (fault : Fault) → Spells (texts words.now) (commands.Decode format bytes) →
         IsFault format bytes fault → MatchResult result (λ _. ⊥) (λ stop. IsStopWith (fault_line fault) stop) }
-    // Nothing is read for them.
-    ensures unread { (format : Format) (bytes : List ℕ) → Spells (texts words.now) (commands.Decode format bytes) →
+    // The source is read to its end for a run, and else not at all.
+    ensures whole { IsStep (texts words.now) → MatchResult result (λ _. IsAtEnd (S.left source.new)) (λ stop. IsLeftBy stop (S.left source.new)) }
+    ensures unread { ¬ IsStep (texts words.now) →
         (S.left source.new ≡ S.left source.old) × (S.faults source.new ≡ S.faults source.old) }
 {
     match command_of(alloc, words)? {
@@ -60,6 +62,7 @@ pub fn work<S: Source>(alloc: Global, words: &[String], source: &mut S) -> Resul
 fn step<S: Source>(alloc: Global, traced: bool, source: &mut S) -> Result<Made, Stop>
     ensures made { IfOk result (λ made. (script : Script) × IsRunnable script × IfSome (S.left source.old) (λ left. IsAccepted left script) × IsMade traced script made.journal made.text) }
     ensures stop { IfErr result (λ stop. StopsStep (S.left source.old) (S.faults source.old) (S.faults source.new) stop) }
+    ensures whole { MatchResult result (λ _. IsAtEnd (S.left source.new)) (λ stop. IsLeftBy stop (S.left source.new)) }
 {
     let input = read_input(alloc, source)?;
     made_from(alloc, traced, input.as_slice())

@@ -1,7 +1,7 @@
 ghost use Rattle.std.specs.Prelude.{◌≡◌, ◌*◌, ◌<◌, ◌^◌, [], length, replicate, IfOk, OnOk};
 ghost use Rattle.blocks_core.specs.Xor.{zeros};
 ghost use Rattle.stripe_layout.specs.Layout.{IsArray, capacity_of, rows_of};
-ghost use Rattle.xor_cli.specs.Today.{CanRun};
+ghost use Rattle.xor_cli.specs.Inputs.{IsRunnable};
 ghost use Rattle.xor_cli.specs.Headline.{IsJournalOf};
 ghost use Rattle.xor_cli.specs.Tasks.{task_at as task_of_blocks};
 
@@ -133,7 +133,7 @@ fn task_at(geometry: Geometry, number: u32, kind: Kind, lba: u32, count: u32, by
 
 /// Runs a script: each call is served in its turn.
 pub fn run(alloc: Global, script: &Script) -> Result<Journal, Memory>
-    requires today { CanRun script.now }
+    requires runnable { IsRunnable script.now }
     requires fewer { length script.now.calls < 2 ^ 32 }
     ensures { IfOk result (λ journal. IsJournalOf script.now journal) }
 {

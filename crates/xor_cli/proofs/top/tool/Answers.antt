@@ -1,5 +1,5 @@
 use Rattle.std.proofs.Common.{inl, inr, refl}
-use Rattle.xor_cli.proofs.Ends.{noted-done, made-done, made-cut_short, made-command, made-refuses, later-refuses, made-limits, made-decodes, stop-refused, stop-exceeded, stop-read_fault, stop-no_memory, stop-usage, stop-no_other, stop-runs, stop-refuses, stop-limits, stop-decodes, stop-faults, stop-answers_usage, stop-complete, stop-decodes_complete, stop-noted}
+use Rattle.xor_cli.proofs.Ends.{noted-done, made-done, made-cut_short, made-runs, made-complete, made-command, made-refuses, later-refuses, made-limits, made-decodes, stop-refused, stop-exceeded, stop-read_fault, stop-no_memory, stop-usage, stop-no_other, stop-runs, stop-refuses, stop-limits, stop-decodes, stop-faults, stop-answers_usage, stop-complete, stop-decodes_complete, stop-noted, in-limit, stop-read_whole, stop-cut_short}
 use Rattle.xor_cli.proofs.top.tool.Goals as goal
 
 -- ---- what was made is handed out
@@ -10,7 +10,13 @@ returns-in-Ok-clause-done g c = made-done _ _ _ _ _ _ _ _ _ _ c.in-Ok.ensures.ma
 pub returns-in-Ok-clause-write_fault : goal.returns-in-Ok-clause-write_fault
 returns-in-Ok-clause-write_fault g c = λ four.
     let cut = made-cut_short _ _ _ _ _ _ _ _ _ _ c.in-Ok.ensures.made c.hand_out.ensures.journal c.hand_out.ensures.status four in
-    inl (cut.0, cut.1, refl)
+    inl (cut.0, cut.1, refl, λ step. c.in-Ok.ensures.whole step)
+
+pub returns-in-Ok-clause-runs : goal.returns-in-Ok-clause-runs
+returns-in-Ok-clause-runs g c = λ step. made-runs _ _ _ _ _ _ _ c.hand_out.ensures.status
+
+pub returns-in-Ok-clause-complete : goal.returns-in-Ok-clause-complete
+returns-in-Ok-clause-complete g c = λ step. made-complete _ _ _ _ _ _ _ _ _ _ _ c.hand_out.ensures.status
 
 pub returns-in-Ok-clause-refuses : goal.returns-in-Ok-clause-refuses
 returns-in-Ok-clause-refuses g c = λ step. made-refuses _ _ _ _ _ _ _ c.in-Ok.ensures.made step
@@ -62,6 +68,11 @@ pub returns-in-Err-clause-runs : goal.returns-in-Err-clause-runs
 returns-in-Err-clause-runs g c =
     stop-runs _ _ _ _ _ _ _ _ c.in-Err.ensures.stop (elim c.hand_note.ensures.status [ inl p ↦ inl p | inr p ↦ inr p.0 ])
 
+pub returns-in-Err-clause-write_fault : goal.returns-in-Err-clause-write_fault
+returns-in-Err-clause-write_fault g c = λ four.
+    let cut = stop-cut_short _ _ _ _ _ _ _ _ _ _ c.in-Err.ensures.stop c.hand_note.ensures.status four in
+    inr (cut.0, cut.1, refl, c.hand_note.ensures.journal)
+
 pub returns-in-Err-clause-exceeded : goal.returns-in-Err-clause-exceeded
 returns-in-Err-clause-exceeded g c =
     stop-exceeded _ _ _ _ _ _ _ _ c.in-Err.ensures.stop (elim c.hand_note.ensures.status [ inl p ↦ inl p | inr p ↦ inr p.0 ])
@@ -91,11 +102,11 @@ returns-in-Err-clause-answers_usage g c =
     stop-answers_usage _ _ _ _ _ _ _ _ c.in-Err.ensures.stop (elim c.hand_note.ensures.status [ inl p ↦ inl p | inr p ↦ inr p.0 ])
 
 pub returns-in-Err-clause-complete : goal.returns-in-Err-clause-complete
-returns-in-Err-clause-complete g c = stop-complete _ _ _ _ _ _ _ _ _ _ _ c.in-Err.ensures.stop c.hand_note.ensures.status
+returns-in-Err-clause-complete g c = stop-complete _ _ _ _ _ _ _ _ _ _ _ c.in-Err.ensures.stop (elim c.hand_note.ensures.status [ inl p ↦ inl p | inr p ↦ inr (p.0, p.1) ])
 
 pub returns-in-Err-clause-decodes_complete : goal.returns-in-Err-clause-decodes_complete
 returns-in-Err-clause-decodes_complete g c = λ format bytes value spelt is written note.
-    stop-decodes_complete _ _ _ _ _ _ (c.in-Err.ensures.decodes format bytes value spelt is) c.hand_note.ensures.status note
+    stop-decodes_complete _ _ _ _ _ _ (c.in-Err.ensures.decodes format bytes value spelt is) (elim c.hand_note.ensures.status [ inl p ↦ inl p | inr p ↦ inr (p.0, p.1) ]) note
 
 pub returns-in-Err-clause-noted : goal.returns-in-Err-clause-noted
 returns-in-Err-clause-noted g c = stop-noted _ _ _ _ (elim c.hand_note.ensures.status [ inl p ↦ inl p | inr p ↦ inr p.0 ])
@@ -104,6 +115,13 @@ returns-in-Err-clause-noted g c = stop-noted _ _ _ _ (elim c.hand_note.ensures.s
 
 pub returns-in-Ok-clause-unread : goal.returns-in-Ok-clause-unread
 returns-in-Ok-clause-unread g c = c.work.ensures.unread
+
+pub returns-in-Ok-clause-read_whole : goal.returns-in-Ok-clause-read_whole
+returns-in-Ok-clause-read_whole g c = λ step one. in-limit _ _ (c.in-Ok.ensures.whole step)
+
+pub returns-in-Err-clause-read_whole : goal.returns-in-Err-clause-read_whole
+returns-in-Err-clause-read_whole g c = λ step one.
+    stop-read_whole _ _ _ _ _ _ _ _ _ c.in-Err.ensures.stop (c.in-Err.ensures.whole step) (elim c.hand_note.ensures.status [ inl p ↦ inl p | inr p ↦ inr p.0 ]) one
 
 pub returns-in-Err-clause-unread : goal.returns-in-Err-clause-unread
 returns-in-Err-clause-unread g c = c.work.ensures.unread

@@ -1,8 +1,9 @@
-use Rattle.std.proofs.Common.{subst, List, ℕ}
-use Rattle.std.proofs.lemmas.Result.{IfOk-weaker, IfErr-weaker}
+use Rattle.std.proofs.Common.{◌≤◌, subst, length, List, ℕ}
+use Rattle.std.proofs.lemmas.Result.{IfOk-weaker, IfErr-weaker, MatchResult-from_both}
+use Rattle.outer_io.specs.Outside.{input_limit}
 use Rattle.xor_cli.specs.Inputs.{IsAccepted}
 use Rattle.xor_cli.specs.Statuses.{StopsRun}
-use Rattle.xor_cli.proofs.Work.{accepted-left, stops-step}
+use Rattle.xor_cli.proofs.Work.{accepted-left, stops-step, stops-left}
 use Rattle.xor_cli.proofs.working.step.Goals as goal
 
 pub returns-clause-made : goal.returns-clause-made
@@ -13,3 +14,9 @@ returns-clause-made g c =
 pub returns-clause-stop : goal.returns-clause-stop
 returns-clause-stop g c =
     IfErr-weaker c.made_from.result _ _ (λ stop s. stops-step _ c.in_ok-input.input _ _ stop c.in_ok-input.ensures.bytes (let P : List ℕ → Type 0 = λ b. StopsRun b stop in subst P c.as_slice.ensures s)) c.made_from.ensures.stop
+
+pub returns-clause-whole : goal.returns-clause-whole
+returns-clause-whole g c =
+    MatchResult-from_both c.made_from.result _ _
+    (IfOk-weaker c.made_from.result _ _ (λ made run. c.in_ok-input.ensures.end (let P : List ℕ → Type 0 = λ b. length b ≤ input_limit in subst P c.as_slice.ensures run.1.0.0)) c.made_from.ensures.made)
+    (IfErr-weaker c.made_from.result _ _ (λ stop s. stops-left _ c.in_ok-input.input stop c.in_ok-input.ensures.end (let P : List ℕ → Type 0 = λ b. StopsRun b stop in subst P c.as_slice.ensures s)) c.made_from.ensures.stop)
