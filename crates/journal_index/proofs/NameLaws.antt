@@ -1,0 +1,64 @@
+-- The place of a name has the entry of that name.
+use Rattle.std.proofs.Common.{◌≡◌, ℕ, Bool, true, false, cond, List, [], ◌∷◌, ◌++◌, length, reverse, slice_get, Option, Some, refl, ap, sym, ◌∙◌, ⊎_elim, ◌==◌, ◌&&◌, nat_cmp, is_eq, Ordering, Less, Equal, Greater, append_assoc, append-nil}
+use Rattle.std.proofs.lemmas.Bool.{cases_eq, eq-eqb, ne_eqb}
+use Rattle.std.proofs.lemmas.List.{reverse-append, length-reverse}
+use Rattle.std.specs.Ordering.{ordering_then}
+use Rattle.array_journal.specs.declared.at.At.{At}
+use Rattle.array_journal.specs.declared.entry.Entry.{Entry}
+use Rattle.array_journal.specs.declared.event.Event.{Event}
+use Rattle.array_journal.specs.Entries.{name_of, same_at, entry_at}
+use Rattle.journal_index.specs.Names.{place_of, event_at, event_of, name_cmp}
+use Rattle.journal_index.proofs.Keyed.{keyed}
+
+turned : (a b : ℕ) → (a == b) ≡ (b == a)
+turned a b = ⊎_elim same apart (cases_eq a b)
+  where
+    same : a ≡ b → (a == b) ≡ (b == a)
+    same e = eq-eqb a b e ∙ sym (eq-eqb b a (sym e))
+
+    apart : (a ≡ b → ⊥) → (a == b) ≡ (b == a)
+    apart h = ne_eqb a b h ∙ sym (ne_eqb b a (λ e. h (sym e)))
+
+both_equal : (x y : Ordering) → is_eq (ordering_then x y) ≡ (is_eq x && is_eq y)
+both_equal Less y = refl
+both_equal Equal y = refl
+both_equal Greater y = refl
+
+-- an entry's key is that of a name where the name is the entry's
+pub is_named : (e : Entry) (name : At) → is_eq (name_cmp (e.stamp, e.lock) (name.stamp, name.lock)) ≡ same_at name (name_of e)
+is_named e name =
+    both_equal (nat_cmp e.stamp name.stamp) (nat_cmp e.lock name.lock)
+    ∙ ap (λ b. b && is_eq (nat_cmp e.lock name.lock)) (keyed e.stamp name.stamp ∙ turned e.stamp name.stamp)
+    ∙ ap (λ b. (name.stamp == e.stamp) && b) (keyed e.lock name.lock ∙ turned e.lock name.lock)
+
+-- where two lists meet, the second begins
+at_seam : (xs : List Entry) (e : Entry) (more : List Entry) → slice_get (xs ++ e ∷ more) (length xs) ≡ Some e
+at_seam [] e more = refl
+at_seam (x ∷ xs) e more = at_seam xs e more
+
+-- one more entry has its place after those before it
+read_step : (b : Bool) (e : Entry) (past more : List Entry) (found : Option Event) (place : Option ℕ) →
+    found ≡ event_at place (reverse past ++ e ∷ more) →
+    cond b (Some e.event) found ≡ event_at (cond b (Some (length past)) place) (reverse (e ∷ past) ++ more)
+read_step b e past more found place h = by b ∙ ap (event_at (cond b (Some (length past)) place)) (sym joined)
+  where
+    joined : reverse (e ∷ past) ++ more ≡ reverse past ++ e ∷ more
+    joined = ap (λ xs. xs ++ more) (reverse-append (e ∷ []) past) ∙ append_assoc (reverse past) (e ∷ []) more
+
+    here : event_of (slice_get (reverse past ++ e ∷ more) (length past)) ≡ Some e.event
+    here =
+        ap (λ n. event_of (slice_get (reverse past ++ e ∷ more) n)) (sym (length-reverse past))
+        ∙ ap event_of (at_seam (reverse past) e more)
+
+    by : (t : Bool) → cond t (Some e.event) found ≡ event_at (cond t (Some (length past)) place) (reverse past ++ e ∷ more)
+    by true = sym here
+    by false = h
+
+read_at : (name : At) (past more : List Entry) → entry_at name past ≡ event_at (place_of name past) (reverse past ++ more)
+read_at name [] more = refl
+read_at name (e ∷ past) more =
+    read_step (same_at name (name_of e)) e past more (entry_at name past) (place_of name past) (read_at name past (e ∷ more))
+
+-- what the entry of a name says stands at its place
+pub entry_at-place : (name : At) (past : List Entry) → entry_at name past ≡ event_at (place_of name past) (reverse past)
+entry_at-place name past = read_at name past [] ∙ ap (event_at (place_of name past)) (append-nil (reverse past))

@@ -1,0 +1,45 @@
+-- How the deeds of commands go over one more entry.
+use Rattle.std.specs.Prelude.{◌≡◌, ℕ, true, false, List, Option, Some, None}
+use Rattle.std.specs.declared.cmp.Ordering.{Ordering}
+use Rattle.std.specs.Ordering.{nat_cmp, ordering_then}
+use Rattle.std.specs.Option.{unwrap_or}
+use Rattle.std.specs.BTreeMap.{get}
+use Rattle.array_journal.specs.declared.entry.Entry.{Entry}
+use Rattle.array_journal.specs.declared.event.Event.{Event}
+use Rattle.array_journal.specs.declared.event.Event.TheVariants.{Fetch, Put, Diff, Take, Fold, Hold, Shut}
+use Rattle.journal_index.specs.declared.deeds.Deeds.{Deeds}
+use Rattle.journal_index.specs.declared.command_deeds.CommandDeeds.{CommandDeeds}
+use Rattle.journal_index.specs.Deeds.{deeds_of}
+
+abbrev pub none_done : Deeds
+none_done = record { fetched = false; put = false; diffed = false; taken = false; folded = false; held = false; shut = false }
+
+-- the command that acts or is shut by an event
+abbrev pub actor : Event → Option ℕ
+actor (Fetch command opened cdb row bytes) = Some command
+actor (Put command opened cdb row bytes names) = Some command
+actor (Diff command opened cdb row bytes sent dropped) = Some command
+actor (Take command opened cdb row bytes) = Some command
+actor (Fold command opened cdb row bytes names) = Some command
+actor (Hold command opened cdb row bytes kept names) = Some command
+actor (Shut command opened acted lost) = Some command
+actor _ = None
+
+-- deeds, and that of one more event
+abbrev pub with_deed : Event → Deeds → Deeds
+with_deed (Fetch command opened cdb row bytes) d = record d { fetched = true }
+with_deed (Put command opened cdb row bytes names) d = record d { put = true }
+with_deed (Diff command opened cdb row bytes sent dropped) d = record d { diffed = true }
+with_deed (Take command opened cdb row bytes) d = record d { taken = true }
+with_deed (Fold command opened cdb row bytes names) d = record d { folded = true }
+with_deed (Hold command opened cdb row bytes kept names) d = record d { held = true }
+with_deed (Shut command opened acted lost) d = record d { shut = true }
+with_deed _ d = d
+
+-- the order of keys of a lock and a command
+abbrev pub key_cmp : ℕ × ℕ → ℕ × ℕ → Ordering
+key_cmp x y = ordering_then (nat_cmp x.0 y.0) (nat_cmp x.1 y.1)
+
+-- what is kept are the deeds in these entries
+abbrev pub KeepsDeeds : List Entry → CommandDeeds → Type 0
+KeepsDeeds past m = (lock c : ℕ) → unwrap_or (get key_cmp m.kept (lock, c)) none_done ≡ deeds_of lock c past
