@@ -1,0 +1,40 @@
+-- What words ask for, and what stops a check.
+use Rattle.std.proofs.Common.{◌≡◌, ℕ, ◌+◌, ◌≤◌, ◌<◌, List, [], ◌∷◌, length, take, Bool, true, false, Option, Some, None, refl, sym, ap, subst, ◌∙◌, ◌⊎◌, inl, inr, length-take, arith}
+use Rattle.std.specs.Prelude.{IsTrue, IsFalse, IfSome, codes}
+use Rattle.std.specs.Str.{bytes_eq}
+use Rattle.std.proofs.lemmas.Slice.Eq.{bytes_eq-Decides}
+use Rattle.std.proofs.lemmas.Option.{none-some, same_Some}
+use Rattle.trace_check.specs.declared.checking.findings.Finding.{Finding}
+use Rattle.trace_check.specs.declared.checking.findings.Stop.{Stop}
+use Rattle.trace_check.specs.declared.checking.findings.Stop.TheVariants.{Usage, ReadFault, Found, Memory}
+use Rattle.trace_check.specs.Endings.{AsksCheck, single_of, StopsBy, IsStopOf}
+use Rattle.trace_check.specs.Notes.{finding_line}
+
+single-is : (words : List (List ℕ)) (word : List ℕ) → single_of words ≡ Some word → words ≡ word ∷ []
+single-is [] word e = absurd (none-some word e)
+single-is (w ∷ []) word e = ap (λ (x : List ℕ). x ∷ []) (same_Some w word e)
+single-is (w ∷ v ∷ words) word e = absurd (none-some word e)
+
+pub asks_yes : (words : List (List ℕ)) (word : List ℕ) (r : Bool) → single_of words ≡ Some word → r ≡ bytes_eq word (codes "check") → IsTrue r → AsksCheck words
+asks_yes words word r e f t = single-is words word e ∙ ap (λ (x : List ℕ). x ∷ []) ((bytes_eq-Decides word (codes "check")).0 (sym f ∙ t))
+
+pub asks_no : (words : List (List ℕ)) (word : List ℕ) (r : Bool) → single_of words ≡ Some word → r ≡ bytes_eq word (codes "check") → IsFalse r → AsksCheck words → ⊥
+asks_no words word r e f t asks =
+    let same : word ≡ codes "check" = same_Some word (codes "check") (sym e ∙ ap single_of asks) in
+    let both : false ≡ true = sym t ∙ f ∙ (bytes_eq-Decides word (codes "check")).1 same in
+    cc
+
+pub asks_none : (words : List (List ℕ)) → single_of words ≡ None → AsksCheck words → ⊥
+asks_none words e asks = none-some (codes "check") (sym e ∙ ap single_of asks)
+
+-- a finding's stop, where the finding holds
+pub stop-found : (Is : Finding → Type 0) (finding : Finding) (stop : Stop) → IsStopOf finding stop → Is finding → StopsBy Is stop
+stop-found Is finding stop (inl e) is = let P : Stop → Type 0 = λ s. StopsBy Is s in subst P (sym e) (is, refl)
+stop-found Is finding stop (inr e) is = let P : Stop → Type 0 = λ s. StopsBy Is s in subst P (sym e) tt
+
+-- what holds of each finding holds of its stop
+pub stops-weaker : (Is Other : Finding → Type 0) → ((f : Finding) → Is f → Other f) → (stop : Stop) → StopsBy Is stop → StopsBy Other stop
+stops-weaker Is Other weaker Usage s = absurd s
+stops-weaker Is Other weaker ReadFault s = absurd s
+stops-weaker Is Other weaker (Found finding note) s = (weaker finding s.0, s.1)
+stops-weaker Is Other weaker Memory s = tt

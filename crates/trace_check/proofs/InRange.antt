@@ -1,0 +1,20 @@
+-- Lists of numbers in range, and lists of which each element is as asked.
+use Rattle.std.proofs.Common.{◌≡◌, ℕ, zero, suc, ◌<◌, ◌^◌, List, [], ◌∷◌, length, get_or, subst, sym, Option, Some, None, arith}
+use Rattle.std.specs.List.{AllByRecursion}
+use Rattle.std.proofs.lemmas.Option.{same_Some}
+use Rattle.sense_data.specs.declared.senses.Pointer.{Pointer}
+use Rattle.trace_check.specs.Readable.{IsPointer}
+use Rattle.trace_check.specs.Told.{IsToldPointer}
+
+pub all-below : (n : ℕ) (xs : List ℕ) → ((k : ℕ) → get_or xs k 0 < n) → AllByRecursion (λ b. b < n) xs
+all-below n [] h = tt
+all-below n (x ∷ xs) h = (h 0, all-below n xs (λ k. h (suc k)))
+
+pub all-at : {A : Type 0} (P : A → Type 0) (xs : List A) (i : ℕ) (x : A) → AllByRecursion P xs → i < length xs → x ≡ get_or xs i x → P x
+all-at P [] i x h lt e = let no : ⊥ = omega arith in absurd no
+all-at P (y ∷ xs) zero x h lt e = subst P (sym e) h.0
+all-at P (y ∷ xs) (suc i) x h lt e = all-at P xs i x h.1 (omega arith) e
+
+pub told-pointer : (o : Option Pointer) (p : Pointer) → o ≡ Some p → IsToldPointer o → p.byte < 2 ^ 16 → IsPointer o
+told-pointer None p e h lt = tt
+told-pointer (Some q) p e h lt = (h.0, h.1, subst (λ (x : Pointer). x.byte < 2 ^ 16) (sym (same_Some q p e)) lt)

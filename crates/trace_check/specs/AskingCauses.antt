@@ -1,0 +1,43 @@
+-- Causes of refusals by number.
+use Rattle.std.specs.Prelude.{ℕ, ◌==◌, if◌then◌else◌, Bool, true, false, Option, Some, None}
+use Rattle.array_journal.specs.declared.event.Why.{Why}
+use Rattle.array_journal.specs.declared.event.Why.TheVariants.{Illegal, Medium, NotReady, Unfitted, Present, Listed, Second, Clean, Absent, NotLost}
+
+abbrev pub number_of : Why → ℕ
+number_of (Illegal sense) = 0
+number_of Medium = 1
+number_of NotReady = 2
+number_of Unfitted = 3
+number_of Present = 4
+number_of Listed = 5
+number_of Second = 6
+number_of Clean = 7
+number_of Absent = 8
+number_of NotLost = 9
+
+-- the cause has no sense
+abbrev pub is_plain : Why → Bool
+is_plain (Illegal sense) = false
+is_plain Medium = true
+is_plain NotReady = true
+is_plain Unfitted = true
+is_plain Present = true
+is_plain Listed = true
+is_plain Second = true
+is_plain Clean = true
+is_plain Absent = true
+is_plain NotLost = true
+
+-- the cause without a sense that has this number
+abbrev pub plain_of : ℕ → Option Why
+plain_of n =
+    if n == 1 then Some Medium
+    else if n == 2 then Some NotReady
+    else if n == 3 then Some Unfitted
+    else if n == 4 then Some Present
+    else if n == 5 then Some Listed
+    else if n == 6 then Some Second
+    else if n == 7 then Some Clean
+    else if n == 8 then Some Absent
+    else if n == 9 then Some NotLost
+    else None

@@ -1,0 +1,55 @@
+//! Whether a journal is what a script's calls ask for.
+
+ghost use Rattle.std.specs.Prelude.{◌≡◌, ◌&&◌, ◌<◌, ◌^◌, ◌↔◌, IsTrue, IfOk, length};
+ghost use Rattle.host_scripts.specs.Scripts.{IsScript};
+ghost use Rattle.stripe_check.specs.Asked.{IsAsked};
+
+mod beginning;
+mod calls;
+mod causes;
+mod deciding;
+mod jobs;
+mod marks;
+mod owning;
+mod pieces;
+mod serving;
+mod surveys;
+mod turns;
+mod walks;
+
+use crate::asking::calls::are_served;
+use crate::asking::owning::is_none_open;
+use crate::asking::surveys::survey_of;
+use crate::asking::turns::are_in_turn;
+use array_journal::Journal;
+use blocks_core::Memory;
+use host_scripts::Script;
+use journal_index::Past;
+use std::alloc::Global;
+
+fn are_all(in_turn: bool, served: bool, decided: bool, owned: bool, closed: bool) -> bool
+    ensures { result ≡ (in_turn && served && decided && owned && closed) }
+{
+    in_turn && served && decided && owned && closed
+}
+
+/// Whether a journal is what the calls of a script ask for: each host's calls one after another, each
+/// call with the entries that it asks for, each piece begun as the book decides, no entry of no call,
+/// and no command left open. It isn't asked whether the journal is a run. Takes memory for the marks of
+/// the entries, their index and the steps of one call at a time. Each entry costs a few lookups, and each
+/// call looks through all marks once; the loss of a disk also looks through all entries for its note.
+pub fn asked(alloc: Global, script: &Script, journal: &Journal) -> Result<bool, Memory>
+    requires script { IsScript script.now }
+    requires calls { length script.now.calls < 2 ^ 32 }
+    requires few { length journal.now < 2 ^ 32 }
+    ensures { IfOk result (λ asked. IsTrue asked ↔ IsAsked script.now journal.now) }
+{
+    let entries = journal.as_slice();
+    let survey = survey_of(alloc, script, entries)?;
+    let marks = survey.marks.as_slice();
+    let past = Past::new(entries, &survey.index);
+    let served = are_served(alloc, script, &past, marks)?;
+    let in_turn = are_in_turn(script, marks);
+    let closed = is_none_open(&past);
+    Ok(are_all(in_turn, served, survey.decided, survey.owned, closed))
+}

@@ -1,0 +1,105 @@
+ghost use Rattle.std.specs.Prelude.{ℕ, List, ◌≡◌, ◌≢◌, ◌⊎◌, [], ◌∷◌, IfSome};
+ghost use Rattle.std.specs.Io.KnownBytes.{Appends};
+ghost use Rattle.array_journal.specs.declared.entry.Entry.{Entry};
+ghost use Rattle.host_scripts.specs.declared.script.Script.{Script};
+ghost use Rattle.outer_io.specs.Outside.{HasRisen, AppendsPrefix};
+ghost use Rattle.trace_check.specs.declared.checking.findings.Finding.{Finding};
+ghost use Rattle.trace_check.specs.Findings.{IsAccepted, IsFound};
+ghost use Rattle.trace_check.specs.Endings.{texts, AsksCheck, IsOneOf, IsDone, IsCutShort, IsNoted, finding_status, status_of, note_of, noted_for};
+
+use crate::checking::findings::Stop;
+use crate::checking::verdict::work;
+use outer_io::{Sink, Source, write_all};
+use std::alloc::Global;
+
+/// The status of a check that accepts, and that of a write that failed.
+const ACCEPTED: u8 = 0;
+
+const WRITE_FAULT: u8 = 4;
+
+/// Checks a printed run, for the one word `check`: the source gives a script, a line `output`, and then
+/// the report and the trace of a run. What is accepted is said to `out`, with the number of entries; else
+/// one line goes to `notes`. The statuses: 0 where the output is that of a run of the script; 1 where it
+/// isn't; 2 where the script is refused; 3 where a read failed; 4 where a write failed; 5 for want of
+/// memory; 7 where a limit is passed; 64 for other words. Takes memory for the input, the journal and its
+/// report.
+pub fn check<S: Source, K: Sink, N: Sink>(
+    alloc: Global,
+    words: &[String],
+    source: &mut S,
+    out: &mut K,
+    notes: &mut N,
+) -> u8
+    // What each status says.
+    ensures accepted { result ≡ 0 →
+        IsDone (texts words.now) (S.left source.old) (K.written out.old) (K.written out.new) }
+    ensures rejected { result ≡ 1 →
+        IsNoted (texts words.now) (S.left source.old) 1 (N.written notes.old) (N.written notes.new) }
+    ensures refused { result ≡ 2 →
+        IsNoted (texts words.now) (S.left source.old) 2 (N.written notes.old) (N.written notes.new) }
+    ensures limited { result ≡ 7 →
+        IsNoted (texts words.now) (S.left source.old) 7 (N.written notes.old) (N.written notes.new) }
+    ensures read_fault { result ≡ 3 →
+        AsksCheck (texts words.now) × HasRisen (S.faults source.old) (S.faults source.new) }
+    ensures write_fault { result ≡ 4 →
+        (HasRisen (K.faults out.old) (K.faults out.new)
+        × IsCutShort (texts words.now) (S.left source.old) (K.written out.old) (K.written out.new)
+        × (N.written notes.new ≡ N.written notes.old))
+        ⊎ (HasRisen (N.faults notes.old) (N.faults notes.new)
+        × (K.written out.new ≡ K.written out.old)) }
+    ensures no_memory { result ≡ 5 → AsksCheck (texts words.now) }
+    ensures usage { result ≡ 64 → AsksCheck (texts words.now) → ⊥ }
+    ensures no_other { IsOneOf (0 ∷ 1 ∷ 2 ∷ 3 ∷ 4 ∷ 5 ∷ 7 ∷ 64 ∷ []) result }
+
+    // Where a status comes, unless a read fails (3), a write fails (4) or memory runs out (5).
+    ensures accepts { AsksCheck (texts words.now) →
+        IfSome (S.left source.old) (λ input. (script : Script) (journal : List Entry) → IsAccepted input script journal →
+        IsOneOf (0 ∷ 3 ∷ 4 ∷ 5 ∷ []) result) }
+    ensures finds { AsksCheck (texts words.now) →
+        IfSome (S.left source.old) (λ input. (finding : Finding) → IsFound input finding →
+        IsOneOf (finding_status finding ∷ 3 ∷ 4 ∷ 5 ∷ []) result) }
+    ensures answers_usage { (AsksCheck (texts words.now) → ⊥) → IsOneOf (64 ∷ 4 ∷ []) result }
+
+    // Where no count of faults rises, only want of memory keeps the input of a run from being accepted.
+    ensures complete { AsksCheck (texts words.now) →
+        IfSome (S.left source.old) (λ input. (script : Script) (journal : List Entry) → IsAccepted input script journal →
+        ¬ HasRisen (S.faults source.old) (S.faults source.new) →
+        ¬ HasRisen (K.faults out.old) (K.faults out.new) →
+        ¬ HasRisen (N.faults notes.old) (N.faults notes.new) →
+        IsOneOf (0 ∷ 5 ∷ []) result) }
+
+    // What else is written.
+    ensures unwritten { result ≢ 0 → result ≢ 4 → K.written out.new ≡ K.written out.old }
+    ensures noted { IsOneOf (0 ∷ 3 ∷ 5 ∷ 64 ∷ []) result →
+        Appends (N.written notes.old) (N.written notes.new) (noted_for result) }
+{
+    match work(alloc, words, source) {
+        Ok(text) => hand_out(out, text.as_slice()),
+        Err(stop) => hand_note(notes, &stop),
+    }
+}
+
+/// Writes the line of what is accepted.
+fn hand_out<K: Sink>(out: &mut K, text: &[u8]) -> u8
+    ensures { ((result ≡ 0) × Appends (K.written out.old) (K.written out.new) text.now)
+        ⊎ ((result ≡ 4)
+        × HasRisen (K.faults out.old) (K.faults out.new)
+        × AppendsPrefix (K.written out.old) (K.written out.new) text.now) }
+{
+    match write_all(out, text) {
+        Ok(()) => ACCEPTED,
+        Err(_) => WRITE_FAULT,
+    }
+}
+
+/// Writes why nothing is accepted.
+fn hand_note<N: Sink>(notes: &mut N, stop: &Stop) -> u8
+    ensures { ((result ≡ status_of stop.now)
+        × Appends (N.written notes.old) (N.written notes.new) (note_of stop.now))
+        ⊎ ((result ≡ 4) × HasRisen (N.faults notes.old) (N.faults notes.new)) }
+{
+    match write_all(notes, stop.note()) {
+        Ok(()) => stop.status(),
+        Err(_) => WRITE_FAULT,
+    }
+}
