@@ -87,7 +87,8 @@ SCRIPTS = [
 class Runs:
     """The runs of one script."""
 
-    def __init__(self, words, calls, script, path):
+    def __init__(self, words, calls, script, path, program=PROGRAM):
+        self.program = program
         self.words = words
         self.calls = calls
         self.path = path
@@ -103,7 +104,7 @@ class Runs:
     def run(self):
         """Runs the program once."""
         with open(self.path, "rb") as stdin, open(self.written, "wb") as stdout:
-            process = subprocess.Popen([PROGRAM, *self.words], stdin=stdin, stdout=stdout, stderr=subprocess.PIPE)
+            process = subprocess.Popen([self.program, *self.words], stdin=stdin, stdout=stdout, stderr=subprocess.PIPE)
             self.notes = process.stderr.read()
             _, status, usage = os.wait4(process.pid, 0)
         self.status = os.waitstatus_to_exitcode(status)
