@@ -8,8 +8,9 @@ use Rattle.array_journal.specs.declared.event.Event.{Event}
 use Rattle.array_journal.specs.declared.event.Event.TheVariants.{Fetch, Put, Diff, Take, Fold, Hold, Shut}
 use Rattle.journal_index.specs.declared.deeds.Deeds.{Deeds}
 use Rattle.journal_index.specs.declared.command_deeds.CommandDeeds.{CommandDeeds}
-use Rattle.journal_index.specs.CommandDeeds.{KeepsDeeds, actor, with_deed, none_done, key_cmp}
+use Rattle.journal_index.specs.CommandDeeds.{KeepsDeeds, actor, with_deed, none_done}
 use Rattle.journal_index.specs.Deeds.{deeds_of}
+use Rattle.journal_index.specs.Keys.{pair_cmp}
 use Rattle.journal_index.proofs.Keys.{tied-pairs}
 
 abbrev seven : Bool → Bool → Bool → Bool → Bool → Bool → Bool → Deeds
@@ -91,14 +92,14 @@ deeds-more lock c stamp l _ past = quiet (l == lock) (deeds_of lock c past)
 -- what is kept after an entry of a command that acts
 pub kept-more : (stamp l command : ℕ) (event : Event) (past : List Entry) (m n : CommandDeeds) →
     actor event ≡ Some command → KeepsDeeds past m →
-    Updates key_cmp m.kept n.kept (l, command) (Some (with_deed event (deeds_of l command past))) →
+    Updates pair_cmp m.kept n.kept (l, command) (Some (with_deed event (deeds_of l command past))) →
     KeepsDeeds (record { stamp = stamp; lock = l; event = event } ∷ past) n
 kept-more stamp l command event past m n acts keeps u lock c =
-    ap (λ o. unwrap_or o none_done) (u.0 (lock, c) ∙ ap (λ b. cond b (Some (with_deed event (deeds_of l command past))) (get key_cmp m.kept (lock, c))) (tied-pairs l command lock c))
+    ap (λ o. unwrap_or o none_done) (u.0 (lock, c) ∙ ap (λ b. cond b (Some (with_deed event (deeds_of l command past))) (get pair_cmp m.kept (lock, c))) (tied-pairs l command lock c))
     ∙ chosen
     ∙ sym (deeds-more lock c stamp l event past ∙ ap (λ o. cond (acts_for l lock c o) (with_deed event (deeds_of lock c past)) (deeds_of lock c past)) acts)
   where
-    chosen : unwrap_or (cond ((l == lock) && (command == c)) (Some (with_deed event (deeds_of l command past))) (get key_cmp m.kept (lock, c))) none_done
+    chosen : unwrap_or (cond ((l == lock) && (command == c)) (Some (with_deed event (deeds_of l command past))) (get pair_cmp m.kept (lock, c))) none_done
         ≡ cond ((l == lock) && (command == c)) (with_deed event (deeds_of lock c past)) (deeds_of lock c past)
     chosen = elim (cases_eq l lock) [
       | inl e ↦ elim (cases_eq command c) [

@@ -1,5 +1,4 @@
 mod Keys
-mod Keyed
 mod NameLaws
 mod StampLaws
 mod DiskLaws

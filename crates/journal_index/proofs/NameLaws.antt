@@ -1,14 +1,14 @@
 -- The place of a name has the entry of that name.
-use Rattle.std.proofs.Common.{◌≡◌, ℕ, Bool, true, false, cond, List, [], ◌∷◌, ◌++◌, length, reverse, slice_get, Option, Some, refl, ap, sym, ◌∙◌, ⊎_elim, ◌==◌, ◌&&◌, nat_cmp, is_eq, Ordering, Less, Equal, Greater, append_assoc, append-nil}
+use Rattle.std.proofs.Common.{◌≡◌, ℕ, Bool, true, false, cond, List, [], ◌∷◌, ◌++◌, length, reverse, slice_get, Option, Some, refl, ap, sym, ◌∙◌, ⊎_elim, ◌==◌, ◌&&◌, is_eq, append_assoc, append-nil}
 use Rattle.std.proofs.lemmas.Bool.{cases_eq, eq-eqb, ne_eqb}
 use Rattle.std.proofs.lemmas.List.{reverse-append, length-reverse}
-use Rattle.std.specs.Ordering.{ordering_then}
 use Rattle.array_journal.specs.declared.at.At.{At}
 use Rattle.array_journal.specs.declared.entry.Entry.{Entry}
 use Rattle.array_journal.specs.declared.event.Event.{Event}
 use Rattle.array_journal.specs.Entries.{name_of, same_at, entry_at}
-use Rattle.journal_index.specs.Names.{place_of, event_at, event_of, name_cmp}
-use Rattle.journal_index.proofs.Keyed.{keyed}
+use Rattle.journal_index.specs.Names.{place_of, event_at, event_of}
+use Rattle.journal_index.specs.Keys.{pair_cmp}
+use Rattle.journal_index.proofs.Keys.{tied-pairs}
 
 turned : (a b : ℕ) → (a == b) ≡ (b == a)
 turned a b = ⊎_elim same apart (cases_eq a b)
@@ -19,17 +19,12 @@ turned a b = ⊎_elim same apart (cases_eq a b)
     apart : (a ≡ b → ⊥) → (a == b) ≡ (b == a)
     apart h = ne_eqb a b h ∙ sym (ne_eqb b a (λ e. h (sym e)))
 
-both_equal : (x y : Ordering) → is_eq (ordering_then x y) ≡ (is_eq x && is_eq y)
-both_equal Less y = refl
-both_equal Equal y = refl
-both_equal Greater y = refl
-
 -- an entry's key is that of a name where the name is the entry's
-pub is_named : (e : Entry) (name : At) → is_eq (name_cmp (e.stamp, e.lock) (name.stamp, name.lock)) ≡ same_at name (name_of e)
+pub is_named : (e : Entry) (name : At) → is_eq (pair_cmp (e.stamp, e.lock) (name.stamp, name.lock)) ≡ same_at name (name_of e)
 is_named e name =
-    both_equal (nat_cmp e.stamp name.stamp) (nat_cmp e.lock name.lock)
-    ∙ ap (λ b. b && is_eq (nat_cmp e.lock name.lock)) (keyed e.stamp name.stamp ∙ turned e.stamp name.stamp)
-    ∙ ap (λ b. (name.stamp == e.stamp) && b) (keyed e.lock name.lock ∙ turned e.lock name.lock)
+    tied-pairs e.stamp e.lock name.stamp name.lock
+    ∙ ap (λ b. b && (e.lock == name.lock)) (turned e.stamp name.stamp)
+    ∙ ap (λ b. (name.stamp == e.stamp) && b) (turned e.lock name.lock)
 
 -- where two lists meet, the second begins
 at_seam : (xs : List Entry) (e : Entry) (more : List Entry) → slice_get (xs ++ e ∷ more) (length xs) ≡ Some e

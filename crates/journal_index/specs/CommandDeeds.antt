@@ -1,7 +1,5 @@
 -- How the deeds of commands go over one more entry.
 use Rattle.std.specs.Prelude.{◌≡◌, ℕ, true, false, List, Option, Some, None}
-use Rattle.std.specs.declared.cmp.Ordering.{Ordering}
-use Rattle.std.specs.Ordering.{nat_cmp, ordering_then}
 use Rattle.std.specs.Option.{unwrap_or}
 use Rattle.std.specs.BTreeMap.{get}
 use Rattle.array_journal.specs.declared.entry.Entry.{Entry}
@@ -10,6 +8,7 @@ use Rattle.array_journal.specs.declared.event.Event.TheVariants.{Fetch, Put, Dif
 use Rattle.journal_index.specs.declared.deeds.Deeds.{Deeds}
 use Rattle.journal_index.specs.declared.command_deeds.CommandDeeds.{CommandDeeds}
 use Rattle.journal_index.specs.Deeds.{deeds_of}
+use Rattle.journal_index.specs.Keys.{pair_cmp}
 
 abbrev pub none_done : Deeds
 none_done = record { fetched = false; put = false; diffed = false; taken = false; folded = false; held = false; shut = false }
@@ -36,10 +35,6 @@ with_deed (Hold command opened cdb row bytes kept names) d = record d { held = t
 with_deed (Shut command opened acted lost) d = record d { shut = true }
 with_deed _ d = d
 
--- the order of keys of a lock and a command
-abbrev pub key_cmp : ℕ × ℕ → ℕ × ℕ → Ordering
-key_cmp x y = ordering_then (nat_cmp x.0 y.0) (nat_cmp x.1 y.1)
-
 -- what is kept are the deeds in these entries
 abbrev pub KeepsDeeds : List Entry → CommandDeeds → Type 0
-KeepsDeeds past m = (lock c : ℕ) → unwrap_or (get key_cmp m.kept (lock, c)) none_done ≡ deeds_of lock c past
+KeepsDeeds past m = (lock c : ℕ) → unwrap_or (get pair_cmp m.kept (lock, c)) none_done ≡ deeds_of lock c past

@@ -1,13 +1,12 @@
 -- The places of named entries. A list of entries called past has the newest entry first; places count from the oldest.
 use Rattle.std.specs.Prelude.{◌≡◌, ℕ, List, [], ◌∷◌, Option, Some, None, length, slice_get, if◌then◌else◌}
-use Rattle.std.specs.declared.cmp.Ordering.{Ordering}
-use Rattle.std.specs.Ordering.{nat_cmp, ordering_then}
 use Rattle.std.specs.BTreeMap.{get}
 use Rattle.array_journal.specs.declared.at.At.{At}
 use Rattle.array_journal.specs.declared.entry.Entry.{Entry}
 use Rattle.array_journal.specs.declared.event.Event.{Event}
 use Rattle.array_journal.specs.Entries.{name_of, same_at}
 use Rattle.journal_index.specs.declared.names.Names.{Names}
+use Rattle.journal_index.specs.Keys.{pair_cmp}
 
 -- the place of the newest entry of a name
 abbrev pub place_of : At → List Entry → Option ℕ
@@ -24,10 +23,6 @@ abbrev pub event_at : Option ℕ → List Entry → Option Event
 event_at None entries = None
 event_at (Some place) entries = event_of (slice_get entries place)
 
--- the order of stamps and locks
-abbrev pub name_cmp : ℕ × ℕ → ℕ × ℕ → Ordering
-name_cmp x y = ordering_then (nat_cmp x.0 y.0) (nat_cmp x.1 y.1)
-
 -- each name has its place
 abbrev pub KeepsNames : List Entry → Names → Type 0
-KeepsNames past names = (name : At) → get name_cmp names.places (name.stamp, name.lock) ≡ place_of name past
+KeepsNames past names = (name : At) → get pair_cmp names.places (name.stamp, name.lock) ≡ place_of name past

@@ -9,7 +9,7 @@ ghost use Rattle.array_journal.specs.Lives.{closes_done};
 ghost use Rattle.journal_index.specs.declared.commands.steps.CommandStep.TheVariants.{Opens, Ends};
 ghost use Rattle.journal_index.specs.CommandSteps.{step_of};
 ghost use Rattle.journal_index.specs.KnownCommands.{KeepsCommands};
-ghost use Rattle.journal_index.specs.Openings.{opening_place, opened_task};
+ghost use Rattle.journal_index.specs.Openings.{opened_task};
 ghost use Rattle.journal_index.specs.Standings.{standings, standing_tasks};
 
 mod endings;
@@ -95,13 +95,6 @@ impl Commands {
         ensures { (past : List Entry) → KeepsCommands past self.now → result ≡ open_count past }
     {
         self.openings.count()
-    }
-
-    /// Where the newest opening of a command stands.
-    pub fn place_of(&self, command: u32) -> Option<usize>
-        ensures { (past : List Entry) → KeepsCommands past self.now → result ≡ opening_place command past }
-    {
-        self.openings.place_of(command)
     }
 
     /// Whether a command was opened and not ended.

@@ -68,7 +68,9 @@ impl Index {
         }
     }
 
-    /// Takes one more entry in, after the ones so far.
+    /// Takes one more entry in, after the ones so far. Takes memory for what the entry adds. Costs a few
+    /// lookups in the number of entries; the end of a command also goes through the openings that stand.
+    /// After want of memory the index is of no list any more.
     pub fn add(&mut self, alloc: Global, past: &[Entry], entry: &Entry) -> Result<(), Memory>
         requires { IsIndexOf (reverse past.now) self.old }
         ensures { OnOk result (IsIndexOf (entry.now ∷ reverse past.now) self.new) }

@@ -1,5 +1,7 @@
-//! The entries of a journal so far, with what is asked of them kept at hand: each entry costs a few
-//! lookups.
+//! The entries of a journal so far, with what is asked of them kept at hand. Most of it is asked by a
+//! lookup. Some goes through a list: the end of a command through the openings that stand, the swaps
+//! before a stamp through those of their slot, and a missing unit through the rebuilds of it that were
+//! opened since its slot was noted.
 #![tactic(auto)]
 
 mod command_deeds;

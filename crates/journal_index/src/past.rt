@@ -19,7 +19,7 @@ use crate::index::Index;
 use array_journal::{At, Entry, Event, Kind, Task};
 use std::marker::Model;
 
-/// The entries so far, the oldest first.
+/// The entries so far, the oldest first, with their index.
 #[derive(Debug, Drop)]
 pub struct Past<'a> {
     entries: &'a [Entry],
@@ -61,6 +61,7 @@ impl<'a> Past<'a> {
         Past { entries, index }
     }
 
+    /// The entries themselves, the oldest first.
     pub fn entries(&self) -> &'a [Entry]
         ensures { result.now ≡ self.now }
     {
@@ -116,7 +117,8 @@ impl<'a> Past<'a> {
         self.index.commands.standing_len()
     }
 
-    /// The task of an opening whose command is open. The oldest comes first.
+    /// The task of an opening whose command is open. The place counts these openings from 0, the oldest
+    /// first; there is none behind the last.
     pub fn standing(&self, place: usize) -> Option<&'a Task>
         ensures { option_copied result ≡ slice_get (standing_tasks (reverse self.now)) place }
     {

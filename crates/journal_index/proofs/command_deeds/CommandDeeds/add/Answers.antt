@@ -1,7 +1,8 @@
 use Rattle.std.proofs.Common.{sym, ap, subst, Some, ◌∙◌}
 use Rattle.std.specs.BTreeMap.{Updates}
 use Rattle.journal_index.specs.declared.deeds.Deeds.{Deeds}
-use Rattle.journal_index.specs.CommandDeeds.{with_deed, key_cmp}
+use Rattle.journal_index.specs.CommandDeeds.{with_deed}
+use Rattle.journal_index.specs.Keys.{pair_cmp}
 use Rattle.journal_index.proofs.CommandDeedSteps.{kept-more}
 use Rattle.journal_index.proofs.command_deeds.CommandDeeds.add.Goals as goal
 
@@ -10,5 +11,5 @@ returns-in_ok-insert c = λ past keeps.
     let e = c.args.entry.now in
     kept-more e.stamp e.lock c.in-Some.command e.event past c.args.self.now (record { kept = c.insert.new.self })
     (sym c.actor.ensures ∙ c.in-Some.is) keeps
-    (subst (λ (d : Deeds). Updates key_cmp c.args.self.now.kept c.insert.new.self (e.lock, c.in-Some.command) (Some d))
+    (subst (λ (d : Deeds). Updates pair_cmp c.args.self.now.kept c.insert.new.self (e.lock, c.in-Some.command) (Some d))
     (c.with_deed-deeds.ensures ∙ ap (with_deed e.event) (c.deeds-before.ensures past keeps)) c.in_ok-insert.ensures.updates)

@@ -2,7 +2,7 @@ use Rattle.std.proofs.Common.{◌<◌, sym, ap, subst, ◌∙◌, cond, lt_of_le
 use Rattle.std.specs.Prelude.{◌==◌}
 use Rattle.array_journal.specs.Entries.{name_of}
 use Rattle.journal_index.specs.Disks.{new_disk, disk_after, disk_at}
-use Rattle.journal_index.proofs.Keyed.{put_or}
+use Rattle.journal_index.proofs.Keys.{put_or}
 use Rattle.journal_index.proofs.DiskLaws.{life-le, drops-le}
 use Rattle.journal_index.proofs.disks.Disks.add.Goals as goal
 

@@ -1,5 +1,5 @@
 use Rattle.std.proofs.Common.{Some, sym, ap, ◌∙◌}
-use Rattle.journal_index.proofs.Keyed.{picked}
+use Rattle.journal_index.proofs.Keys.{picked}
 use Rattle.journal_index.proofs.NameLaws.{is_named}
 use Rattle.journal_index.proofs.names.Names.add.Goals as goal
 
