@@ -3,6 +3,7 @@ use Rattle.std.proofs.Common.{◌≡◌, ℕ, ◌+◌, ◌≤◌, ◌<◌, List,
 use Rattle.std.specs.Prelude.{IfSome}
 use Rattle.std.specs.List.{flat_map}
 use Rattle.std.proofs.lemmas.List.{take_all}
+use Rattle.std.specs.Io.KnownBytes.{IsAtEnd}
 use Rattle.std.proofs.lemmas.Option.{none-some, same_Some}
 use Rattle.array_journal.specs.declared.entry.Entry.{Entry}
 use Rattle.array_journal.specs.Run.{IsSetting, Run}
@@ -22,7 +23,7 @@ use Rattle.trace_check.specs.declared.checking.findings.Finding.{Finding}
 use Rattle.trace_check.specs.declared.checking.findings.Finding.TheVariants.{TooLong, Refused, Over, TextLine, RunEntry, Unasked, ReportLine}
 use Rattle.trace_check.specs.declared.checking.findings.Stop.{Stop}
 use Rattle.trace_check.specs.declared.checking.findings.Stop.TheVariants.{Usage, ReadFault, Found, Memory}
-use Rattle.trace_check.specs.Endings.{StopsBy, StopsCheck, IsRunOf}
+use Rattle.trace_check.specs.Endings.{StopsBy, StopsCheck, IsReadWhole, IsRunOf}
 use Rattle.trace_check.specs.Findings.{HasJournal, IsRunIn, IsFoundOf, IsFoundFor, IsFoundIn, IsFoundAt, IsFound, IsAccepted, IsSound}
 use Rattle.trace_check.specs.Inputs.{Parts, parts_of, output_line}
 use Rattle.trace_check.specs.Readable as readable
@@ -134,7 +135,20 @@ accepted-not input script journal a (RunEntry n) is = accepted-at input script j
 accepted-not input script journal a Unasked is = accepted-at input script journal a Unasked is.1
 accepted-not input script journal a (ReportLine n) is = accepted-at input script journal a (ReportLine n) is.1
 
+-- an input is that of one journal
+pub one-run : (input : List ℕ) (script other : Script) (journal entries : List Entry) → IsAccepted input script journal → IsAccepted input other entries → journal ≡ entries
+one-run input script other journal entries a b =
+    let same = same_Some _ _ (sym a.parted ∙ b.parted) in
+    one-journal (trace_of journal) journal entries (refl, a.readable) (ap (λ (p : Parts). p.trace) same, b.readable)
+
 -- ---- from the bytes that were read to those that the source had
+
+-- nothing is left of an input that was read and isn't too long
+pub whole-left : (left rest : Option (List ℕ)) (bytes : List ℕ) → IfSome left (λ all. bytes ≡ take (input_limit + 1) all) → (length bytes ≤ input_limit → IsAtEnd rest) → IsReadWhole left rest
+whole-left None rest bytes e end = tt
+whole-left (Some all) rest bytes e end = λ short.
+    let l : length bytes ≡ length (take (input_limit + 1) all) = ap (λ (t : List ℕ). length t) e in
+    end (omega (arith, l, short, length-take (input_limit + 1) all))
 
 whole-read : (left bytes : List ℕ) → bytes ≡ take (input_limit + 1) left → length bytes ≤ input_limit → bytes ≡ left
 whole-read left bytes e short =

@@ -1,9 +1,24 @@
 -- Causes without a sense are told by their number.
-use Rattle.std.proofs.Common.{◌≡◌, true, false, Option, Some, is_some, unwrap_or, refl, sym, ap, ◌∙◌}
+use Rattle.std.proofs.Common.{◌≡◌, ◌==◌, ℕ, true, Option, Some, None, is_some, unwrap_or, refl, sym, ap, ◌∙◌}
+use Rattle.std.specs.Prelude.{if◌then◌else◌}
 use Rattle.std.proofs.lemmas.Bool.{false≢true}
 use Rattle.array_journal.specs.declared.event.Why.{Why}
 use Rattle.array_journal.specs.declared.event.Why.TheVariants.{Illegal, Medium, NotReady, Unfitted, Present, Listed, Second, Clean, Absent, NotLost}
-use Rattle.trace_check.specs.AskingCauses.{number_of, is_plain, plain_of}
+use Rattle.trace_check.specs.AskingCauses.{number_of, is_plain}
+
+-- the cause without a sense that has this number
+abbrev plain_of : ℕ → Option Why
+plain_of n =
+    if n == 1 then Some Medium
+    else if n == 2 then Some NotReady
+    else if n == 3 then Some Unfitted
+    else if n == 4 then Some Present
+    else if n == 5 then Some Listed
+    else if n == 6 then Some Second
+    else if n == 7 then Some Clean
+    else if n == 8 then Some Absent
+    else if n == 9 then Some NotLost
+    else None
 
 named : (a : Why) → is_plain a ≡ true → plain_of (number_of a) ≡ Some a
 named (Illegal sense) h = absurd (false≢true h)

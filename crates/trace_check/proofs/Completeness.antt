@@ -1,30 +1,78 @@
 -- Which statuses an input is answered with, one that is accepted and one that isn't.
-use Rattle.std.proofs.Common.{◌≡◌, ℕ, List, [], ◌∷◌, Option, Some, None, inl, inr, ◌⊎◌, ap, ◌∙◌, arith}
-use Rattle.std.specs.Prelude.{IfSome}
-use Rattle.std.specs.Io.KnownBytes.{Appends}
+use Rattle.std.proofs.Common.{◌≡◌, ◌≢◌, ℕ, ◌≤◌, List, [], ◌∷◌, length, Option, Some, None, inl, inr, ◌⊎◌, ap, sym, subst, ◌∙◌, arith}
+use Rattle.std.specs.Prelude.{IfSome, Result, Ok, Err, MatchResult}
+use Rattle.std.specs.Io.KnownBytes.{Appends, IsAtEnd}
+use Rattle.std.proofs.lemmas.Option.{same_Some}
 use Rattle.array_journal.specs.declared.entry.Entry.{Entry}
 use Rattle.host_scripts.specs.declared.script.Script.{Script}
-use Rattle.outer_io.specs.Outside.{HasRisen}
+use Rattle.outer_io.specs.declared.input.InputFault.{InputFault}
+use Rattle.outer_io.specs.declared.input.InputFault.TheVariants as faults
+use Rattle.outer_io.specs.Outside.{HasRisen, AppendsPrefix, input_limit}
 use Rattle.trace_check.specs.declared.checking.findings.Finding.{Finding}
+use Rattle.trace_check.specs.declared.checking.findings.Finding.TheVariants.{TooLong, Refused, Over, TextLine, RunEntry, Unasked, ReportLine}
 use Rattle.trace_check.specs.declared.checking.findings.Stop.{Stop}
 use Rattle.trace_check.specs.declared.checking.findings.Stop.TheVariants.{Usage, ReadFault, Found, Memory}
-use Rattle.trace_check.specs.Endings.{AsksCheck, IsOneOf, IsTold, StopsFor, finding_status, status_of, note_of}
+use Rattle.trace_check.specs.Endings.{AfterReading, AsksCheck, IsNoteCutShort, IsOneOf, IsReadWhole, IsTold, StopsFor, finding_status, status_of, note_of}
+use Rattle.trace_check.specs.Faulted.{stop_of}
 use Rattle.trace_check.specs.Findings.{IsAccepted, IsFound}
-use Rattle.trace_check.proofs.Accepted.{accepted-not}
+use Rattle.trace_check.specs.Inputs.{Parts}
+use Rattle.trace_check.specs.Notes.{finding_line, accepted_line}
+use Rattle.trace_check.proofs.Accepted.{accepted-not, one-run}
 use Rattle.trace_check.proofs.OneFinding.{one-finding}
 
 -- what becomes of noting what stopped a check
 abbrev pub NotedStop : ℕ → Stop → Option (List ℕ) → Option (List ℕ) → ℕ → ℕ → Type 0
 NotedStop status stop old new before after = ((status ≡ status_of stop) × Appends old new (note_of stop)) ⊎ ((status ≡ 4) × HasRisen before after)
 
-pub stop-accepts : (words : List (List ℕ)) (left : Option (List ℕ)) (before after status : ℕ) (stop : Stop) (old new : Option (List ℕ)) (nb na : ℕ) → StopsFor words left before after stop → NotedStop status stop old new nb na
-    → AsksCheck words → IfSome left (λ input. (script : Script) (journal : List Entry) → IsAccepted input script journal → IsOneOf (0 ∷ 3 ∷ 4 ∷ 5 ∷ []) status)
-stop-accepts words None before after status stop old new nb na s e asks = tt
-stop-accepts words (Some input) before after status stop old new nb na s (inr e) asks = λ script journal a. inr (inr (inl e.0))
-stop-accepts words (Some input) before after status Usage old new nb na s (inl e) asks = absurd (s asks)
-stop-accepts words (Some input) before after status ReadFault old new nb na s (inl e) asks = λ script journal a. inr (inl e.0)
-stop-accepts words (Some input) before after status (Found f note) old new nb na s (inl e) asks = λ script journal a. absurd (accepted-not input script journal a f s.1.0)
-stop-accepts words (Some input) before after status Memory old new nb na s (inl e) asks = λ script journal a. inr (inr (inr (inl e.0)))
+-- what becomes of handing out the line of a run
+abbrev pub HandedOut : ℕ → Option (List ℕ) → Option (List ℕ) → ℕ → ℕ → List ℕ → Type 0
+HandedOut status old new before after text =
+    ((status ≡ 0) × Appends old new text) ⊎ ((status ≡ 4) × HasRisen before after × AppendsPrefix old new text)
+
+-- the answers to an input that is accepted, and to one that is found to be something else
+abbrev pub Accepts : Option (List ℕ) → ℕ → Option (List ℕ) → Option (List ℕ) → Type 0
+Accepts left status old new =
+    IfSome left (λ input. (script : Script) (journal : List Entry) → IsAccepted input script journal → ((status ≡ 0) × Appends old new (accepted_line (length journal))) ⊎ IsOneOf (3 ∷ 4 ∷ 5 ∷ []) status)
+
+abbrev pub Finds : Option (List ℕ) → ℕ → Option (List ℕ) → Option (List ℕ) → Type 0
+Finds left status old new =
+    IfSome left (λ input. (f : Finding) → IsFound input f → ((status ≡ finding_status f) × Appends old new (finding_line f)) ⊎ IsOneOf (3 ∷ 4 ∷ 5 ∷ []) status)
+
+-- ---- the input of a run
+
+pub told-accepts : (words : List (List ℕ)) (left : Option (List ℕ)) (text : List ℕ) (status : ℕ) (old new : Option (List ℕ)) (ob oa : ℕ) → IsTold words left text → HandedOut status old new ob oa text → AsksCheck words → Accepts left status old new
+told-accepts words None text status old new ob oa told e asks = tt
+told-accepts words (Some input) text status old new ob oa told (inr e) asks = λ script journal a. inr (inr (inl e.0))
+told-accepts words (Some input) text status old new ob oa told (inl e) asks = λ script journal a.
+    let run = told.1.1.0 in
+    let same : told.1.0 ≡ length journal = run.1.1.1 ∙ ap (λ (j : List Entry). length j) (one-run input run.0 script run.1.0 journal run.1.1.0.accepted a) in
+    inl (e.0, subst (λ (t : List ℕ). Appends old new t) (told.1.1.1 ∙ ap (λ n. accepted_line n) same) e.1)
+
+pub told-finds : (words : List (List ℕ)) (left : Option (List ℕ)) (text : List ℕ) (status : ℕ) (old new : Option (List ℕ)) → IsTold words left text → AsksCheck words → Finds left status old new
+told-finds words None text status old new told asks = tt
+told-finds words (Some input) text status old new told asks = λ f is. absurd (accepted-not input _ _ told.1.1.0.1.1.0.accepted f is)
+
+-- ---- what stops a check
+
+pub stop-accepts : (words : List (List ℕ)) (left : Option (List ℕ)) (before after status : ℕ) (stop : Stop) (old new : Option (List ℕ)) (nb na : ℕ) (held given : Option (List ℕ)) → StopsFor words left before after stop → NotedStop status stop old new nb na
+    → AsksCheck words → Accepts left status held given
+stop-accepts words None before after status stop old new nb na held given s e asks = tt
+stop-accepts words (Some input) before after status stop old new nb na held given s (inr e) asks = λ script journal a. inr (inr (inl e.0))
+stop-accepts words (Some input) before after status Usage old new nb na held given s (inl e) asks = absurd (s asks)
+stop-accepts words (Some input) before after status ReadFault old new nb na held given s (inl e) asks = λ script journal a. inr (inl e.0)
+stop-accepts words (Some input) before after status (Found f note) old new nb na held given s (inl e) asks = λ script journal a. absurd (accepted-not input script journal a f s.1.0)
+stop-accepts words (Some input) before after status Memory old new nb na held given s (inl e) asks = λ script journal a. inr (inr (inr (inl e.0)))
+
+pub stop-finds : (words : List (List ℕ)) (left : Option (List ℕ)) (before after status : ℕ) (stop : Stop) (old new : Option (List ℕ)) (nb na : ℕ) → StopsFor words left before after stop → NotedStop status stop old new nb na
+    → AsksCheck words → Finds left status old new
+stop-finds words None before after status stop old new nb na s e asks = tt
+stop-finds words (Some input) before after status stop old new nb na s (inr e) asks = λ f is. inr (inr (inl e.0))
+stop-finds words (Some input) before after status Usage old new nb na s (inl e) asks = absurd (s asks)
+stop-finds words (Some input) before after status ReadFault old new nb na s (inl e) asks = λ f is. inr (inl e.0)
+stop-finds words (Some input) before after status (Found g note) old new nb na s (inl e) asks = λ f is.
+    let same = one-finding input g f s.1.0 is in
+    inl (e.0 ∙ ap (λ (x : Finding). finding_status x) same, subst (λ (t : List ℕ). Appends old new t) (s.1.1 ∙ ap (λ (x : Finding). finding_line x) same) e.1)
+stop-finds words (Some input) before after status Memory old new nb na s (inl e) asks = λ f is. inr (inr (inr (inl e.0)))
 
 pub stop-complete : (words : List (List ℕ)) (left : Option (List ℕ)) (before after out_before out_after status : ℕ) (stop : Stop) (old new : Option (List ℕ)) (nb na : ℕ) → StopsFor words left before after stop → NotedStop status stop old new nb na
     → AsksCheck words → IfSome left (λ input. (script : Script) (journal : List Entry) → IsAccepted input script journal → ¬ HasRisen before after → ¬ HasRisen out_before out_after → ¬ HasRisen nb na → IsOneOf (0 ∷ 5 ∷ []) status)
@@ -35,16 +83,56 @@ stop-complete words (Some input) before after ob oa status ReadFault old new nb 
 stop-complete words (Some input) before after ob oa status (Found f note) old new nb na s (inl e) asks = λ script journal a read written noted. absurd (accepted-not input script journal a f s.1.0)
 stop-complete words (Some input) before after ob oa status Memory old new nb na s (inl e) asks = λ script journal a read written noted. inr (inl e.0)
 
--- an input that is found to be something isn't one that is accepted
-pub told-finds : (words : List (List ℕ)) (left : Option (List ℕ)) (text : List ℕ) (status : ℕ) → IsTold words left text → AsksCheck words → IfSome left (λ input. (f : Finding) → IsFound input f → IsOneOf (finding_status f ∷ 3 ∷ 4 ∷ 5 ∷ []) status)
-told-finds words None text status told asks = tt
-told-finds words (Some input) text status told asks = λ f is. absurd (accepted-not input _ _ told.1.1.0.1.1.0.accepted f is)
+-- ---- a stop itself isn't a write fault
 
-pub stop-finds : (words : List (List ℕ)) (left : Option (List ℕ)) (before after status : ℕ) (stop : Stop) (old new : Option (List ℕ)) (nb na : ℕ) → StopsFor words left before after stop → NotedStop status stop old new nb na
-    → AsksCheck words → IfSome left (λ input. (f : Finding) → IsFound input f → IsOneOf (finding_status f ∷ 3 ∷ 4 ∷ 5 ∷ []) status)
-stop-finds words None before after status stop old new nb na s e asks = tt
-stop-finds words (Some input) before after status stop old new nb na s (inr e) asks = λ f is. inr (inr (inl e.0))
-stop-finds words (Some input) before after status Usage old new nb na s (inl e) asks = absurd (s asks)
-stop-finds words (Some input) before after status ReadFault old new nb na s (inl e) asks = λ f is. inr (inl e.0)
-stop-finds words (Some input) before after status (Found g note) old new nb na s (inl e) asks = λ f is. inl (e.0 ∙ ap (λ (x : Finding). finding_status x) (one-finding input g f s.1.0 is))
-stop-finds words (Some input) before after status Memory old new nb na s (inl e) asks = λ f is. inr (inr (inr (inl e.0)))
+finding-not_four : (f : Finding) → finding_status f ≢ 4
+finding-not_four TooLong = λ a. cc a
+finding-not_four (Refused n cause) = λ a. cc a
+finding-not_four (Over limit) = λ a. cc a
+finding-not_four (TextLine n) = λ a. cc a
+finding-not_four (RunEntry n) = λ a. cc a
+finding-not_four Unasked = λ a. cc a
+finding-not_four (ReportLine n) = λ a. cc a
+
+pub not-four : (stop : Stop) → status_of stop ≢ 4
+not-four Usage = λ a. cc a
+not-four ReadFault = λ a. cc a
+not-four (Found f note) = finding-not_four f
+not-four Memory = λ a. cc a
+
+pub stop-cut_short : (words : List (List ℕ)) (left : Option (List ℕ)) (before after status : ℕ) (stop : Stop) (old new : Option (List ℕ)) (nb na : ℕ) → StopsFor words left before after stop → NotedStop status stop old new nb na
+    → (status ≡ 4 → AppendsPrefix old new (note_of stop)) → status ≡ 4 → HasRisen nb na × IsNoteCutShort words left before after old new
+stop-cut_short words left before after status stop old new nb na s (inl e) begun four = absurd (not-four stop (sym e.0 ∙ four))
+stop-cut_short words left before after status stop old new nb na s (inr e) begun four = (e.1, (stop, (s, begun four)))
+
+-- ---- what is read
+
+-- a status that is none of these
+not-read : (status n : ℕ) → status ≡ n → n ≢ 0 → n ≢ 1 → n ≢ 2 → n ≢ 7 → IsOneOf (0 ∷ 1 ∷ 2 ∷ 7 ∷ []) status → ⊥
+not-read status n e zero one two seven (inl a) = zero (sym e ∙ a)
+not-read status n e zero one two seven (inr (inl a)) = one (sym e ∙ a)
+not-read status n e zero one two seven (inr (inr (inl a))) = two (sym e ∙ a)
+not-read status n e zero one two seven (inr (inr (inr (inl a)))) = seven (sym e ∙ a)
+not-read status n e zero one two seven (inr (inr (inr (inr none)))) = absurd none
+
+pub stop-read_whole : (Said : Type 0) (status : ℕ) (stop : Stop) (old new : Option (List ℕ)) (nb na : ℕ) → AfterReading Said stop → NotedStop status stop old new nb na → IsOneOf (0 ∷ 1 ∷ 2 ∷ 7 ∷ []) status → Said
+stop-read_whole Said status stop old new nb na said (inr e) one = absurd (not-read status 4 e.0 (λ a. cc a) (λ a. cc a) (λ a. cc a) (λ a. cc a) one)
+stop-read_whole Said status Usage old new nb na said (inl e) one = absurd (not-read status 64 e.0 (λ a. cc a) (λ a. cc a) (λ a. cc a) (λ a. cc a) one)
+stop-read_whole Said status ReadFault old new nb na said (inl e) one = absurd (not-read status 3 e.0 (λ a. cc a) (λ a. cc a) (λ a. cc a) (λ a. cc a) one)
+stop-read_whole Said status (Found f note) old new nb na said (inl e) one = said
+stop-read_whole Said status Memory old new nb na said (inl e) one = absurd (not-read status 5 e.0 (λ a. cc a) (λ a. cc a) (λ a. cc a) (λ a. cc a) one)
+
+after-any : (Said : Type 0) (stop : Stop) → Said → AfterReading Said stop
+after-any Said Usage said = tt
+after-any Said ReadFault said = tt
+after-any Said (Found f note) said = said
+after-any Said Memory said = tt
+
+-- what is known once the input is read, of whatever comes after
+pub after-both : {X : Type 0} (Said : Type 0) (r : Result X Stop) → Said → MatchResult r (λ x. Said) (λ stop. AfterReading Said stop)
+after-both Said (Ok x) said = said
+after-both Said (Err stop) said = after-any Said stop said
+
+pub after-fault : (Said : Type 0) (fault : InputFault) → AfterReading Said (stop_of fault)
+after-fault Said faults.Failed = tt
+after-fault Said faults.Memory = tt

@@ -1,10 +1,10 @@
 -- Whole lines: what is read of a line is the entry that it spells.
-use Rattle.std.proofs.Common.{◌≡◌, ℕ, ◌+◌, ◌^◌, ◌<◌, ◌≤◌, Bool, true, List, [], ◌∷◌, ◌++◌, Option, Some, None, refl, sym, ap, subst, ◌∙◌, append_assoc, arith}
+use Rattle.std.proofs.Common.{◌≡◌, ℕ, ◌^◌, ◌<◌, ◌≤◌, true, List, [], ◌∷◌, ◌++◌, Option, Some, refl, sym, ap, subst, ◌∙◌, append_assoc, arith}
 use Rattle.std.specs.Fmt.{decimal}
 use Rattle.std.proofs.lemmas.Option.{some_pair_parts}
 use Rattle.array_journal.specs.declared.entry.Entry.{Entry}
 use Rattle.array_journal.specs.declared.event.Event.{Event}
-use Rattle.stripe_check.specs.Traces.{field, event_text, entry_line}
+use Rattle.stripe_check.specs.Traces.{field, entry_line}
 use Rattle.trace_check.specs.declared.names.Name.{Name}
 use Rattle.trace_check.specs.Steps.{◌>>=◌}
 use Rattle.trace_check.specs.Words.{front_at, number_of}
@@ -13,8 +13,7 @@ use Rattle.trace_check.specs.Lines.{field_of, name_text, name_of, event_at, stam
 use Rattle.trace_check.specs.Readable.{IsEntry}
 use Rattle.trace_check.proofs.Cuts.{bind-some, above-lower, ends, front-takes, front-again, stripped-takes, stripped-again}
 use Rattle.trace_check.proofs.Numerals.{number-takes, number-again, decimal-above}
-use Rattle.trace_check.proofs.Parts.{IsPart}
-use Rattle.trace_check.proofs.EventLaws.{title, fields, event-parts, IsFound, event-takes, event-again, fields-begin, name-part, lock-part}
+use Rattle.trace_check.proofs.EventLaws.{title, fields, event-parts, event-takes, event-again, fields-begin, name-part, lock-part}
 
 stamp-takes : (bytes : List ℕ) (stamp : ℕ) (rest : List ℕ) → stamp_at bytes ≡ Some (stamp, rest) → (bytes ≡ decimal stamp ++ rest) × (stamp < 2 ^ 64)
 unfolding stamp_at

@@ -1,7 +1,5 @@
 -- The fields of each event: what is read is spelt so, and what is spelt so is read.
-use Rattle.std.proofs.Common.{◌≡◌, ℕ, ◌^◌, ◌<◌, Bool, true, List, [], ◌∷◌, ◌++◌, Option, Some, None, refl, sym, ap, subst, ◌∙◌}
-use Rattle.std.specs.Prelude.{codes}
-use Rattle.std.specs.List.{AllByRecursion}
+use Rattle.std.proofs.Common.{◌≡◌, ℕ, ◌^◌, ◌<◌, Bool, true, List, [], ◌∷◌, ◌++◌, Option, Some, refl, subst}
 use Rattle.std.specs.Fmt.{decimal}
 use Rattle.sbc_cdbs.specs.declared.descriptor.Cdb.{Cdb}
 use Rattle.sbc_cdbs.specs.Cdbs.{cdb_bytes}
@@ -22,10 +20,10 @@ use Rattle.trace_check.specs.declared.names.Name.TheVariants as titles
 use Rattle.trace_check.specs.Words.{number_of, data_of, at_of, cause_of, flag_of, what_of, kind_of}
 use Rattle.trace_check.specs.Senses.{why_of}
 use Rattle.trace_check.specs.Lists.{listed_of}
-use Rattle.trace_check.specs.Readable.{AreBytes, IsAt, IsCause, AreOwners, AreNames, IsCdb, IsWhy, IsAct, IsAim, IsPlace, IsEvent}
+use Rattle.trace_check.specs.Readable.{AreBytes, IsAt, IsCause, AreOwners, AreNames, IsCdb, IsWhy, IsAct, IsEvent}
 use Rattle.trace_check.specs.Lines.{field_of, cdb_word_of, act_at, aim_at, place_at, task_of_parts, name_text, name_of, fetch_at, put_at, diff_at, take_at, fold_at, hold_at, shut_at, gone_at, wiped_at, fresh_at, open_at, close_at, spoil_at, note_at, swap_at, refuse_at, event_at}
 use Rattle.trace_check.proofs.Cuts.{above, ends}
-use Rattle.trace_check.proofs.Parts.{IsWord, IsPart, field-part, takes-1, takes-2, takes-3, takes-4, takes-5, again-1, again-2, again-3, again-4, again-5}
+use Rattle.trace_check.proofs.Parts.{IsPart, field-part, takes-1, takes-2, takes-3, takes-4, takes-5, again-1, again-2, again-3, again-4, again-5}
 use Rattle.trace_check.proofs.WordLaws.{Always, long-word, short-word, data-word, at-word, cause-word, flag-word, what-word, kind-word, spelt-takes}
 use Rattle.trace_check.proofs.ListLaws.{names-word, owners-word}
 use Rattle.trace_check.proofs.SenseLaws.{cdb-word, why-word}

@@ -7,9 +7,9 @@ use Rattle.std.proofs.lemmas.Bool.{ltb-true, ltb-false, leb-true, leb-false, eqb
 use Rattle.blocks_core.specs.Xor.{zeros}
 use Rattle.sbc_cdbs.specs.declared.descriptor.Cdb.{Cdb}
 use Rattle.sense_data.specs.declared.senses.Sense.{Sense}
-use Rattle.sense_data.specs.Reading.{Values, values}
+use Rattle.sense_data.specs.Reading.{values}
 use Rattle.sense_data.proofs.Values.{same_sense}
-use Rattle.trace_check.specs.Steps.{◌>>=◌, checked_below, checked_most, checked_same, below, at_most, same}
+use Rattle.trace_check.specs.Steps.{◌>>=◌, checked_below, checked_most, checked_same, below, same}
 use Rattle.trace_check.specs.Cdbs.{zeros-behind, cdb_of}
 use Rattle.trace_check.specs.Words.{number_of}
 use Rattle.trace_check.specs.Senses.{plain_sense, pointed_sense, pointed_of, sense_with}

@@ -29,6 +29,7 @@ pub mod SenseLaws
 pub mod EventLaws
 pub mod EntryLaws
 pub mod TraceLaws
+pub mod ToldJournals
 pub mod InRange
 pub mod Places
 pub mod Asks

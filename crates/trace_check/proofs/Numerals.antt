@@ -11,7 +11,6 @@ use Rattle.std.proofs.lemmas.Bool.Decides.{nat_tests}
 use Rattle.std.proofs.lemmas.Fmt.{decimal_digit, decimal_is_IsNumeral, decimal-digits_value, decimal-digits_of}
 use Rattle.std.proofs.lemmas.Option.{cond_some}
 use Rattle.std.proofs.lemmas.Str.Parse.{IsNumeralModel, numerals_by_value, tells_all_ascii_digits, digits_value-take-le}
-use Rattle.trace_check.specs.Steps.{◌>>=◌}
 use Rattle.trace_check.specs.Words.{digits_of_u64, numeral_of, number_of}
 use Rattle.trace_check.proofs.Cuts.{bind-some, above}
 

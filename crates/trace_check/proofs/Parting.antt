@@ -36,7 +36,7 @@ use Rattle.stripe_check.specs.Traces.{field, event_text, entry_line, trace_of}
 use Rattle.trace_check.specs.declared.checking.parting.Mark.{Mark}
 use Rattle.trace_check.specs.declared.checking.parting.Mark.TheVariants as marks
 use Rattle.trace_check.specs.Inputs.{Parts, parts_of, parts_in, marked, place_from, place_or, behind_stripes, trace_place, output_line}
-use Rattle.trace_check.specs.Laws.{PrintedRunsLaw}
+use Rattle.trace_check.specs.Laws.{printed}
 use Rattle.trace_check.specs.Senses.{stripped}
 use Rattle.trace_check.specs.Steps.{◌>>=◌}
 use Rattle.trace_check.proofs.Cuts.{stripped-again}
@@ -427,13 +427,6 @@ parts-again script report trace first split =
     ∙ ap (λ (k : ℕ). made script k) split
     ∙ rw (take_at report trace (length report) refl, drop_at report trace (length report) refl) refl
 
-pub printed-accepted : PrintedRunsLaw
-printed-accepted script journal is within readable run asked short = record {
-  short = short;
-  parted = parts-again (spelling script) (report_of script journal) (trace_of journal) (script-found script (report_of script journal ++ trace_of journal) is) (report-parted script journal);
-  in_range = is;
-  within = within;
-  readable = readable;
-  run = run;
-  asked = asked;
-}
+pub printed-parted : (script : Script) (journal : List Entry) → IsScript script → parts_of (printed script journal) ≡ Some (record { script = spelling script; report = report_of script journal; trace = trace_of journal })
+printed-parted script journal is =
+    parts-again (spelling script) (report_of script journal) (trace_of journal) (script-found script (report_of script journal ++ trace_of journal) is) (report-parted script journal)

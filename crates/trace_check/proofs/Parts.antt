@@ -1,5 +1,5 @@
 -- Parts of a line: what is read is what is spelt there, and what is spelt is read again, whatever follows it.
-use Rattle.std.proofs.Common.{◌≡◌, ℕ, Bool, true, List, [], ◌∷◌, ◌++◌, Option, Some, None, refl, sym, ap, subst, ◌∙◌, append_assoc}
+use Rattle.std.proofs.Common.{◌≡◌, ℕ, true, List, ◌∷◌, ◌++◌, Option, Some, refl, sym, ap, subst, ◌∙◌, append_assoc}
 use Rattle.std.proofs.lemmas.Option.{some_pair_parts}
 use Rattle.stripe_check.specs.Traces.{field}
 use Rattle.trace_check.specs.Steps.{◌>>=◌}

@@ -1,5 +1,5 @@
 -- Where lines begin, one byte on; what two texts have in common, one byte on; and what stops a check.
-use Rattle.std.proofs.Common.{◌≡◌, ℕ, ◌+◌, ◌-◌, ◌<◌, ◌≤◌, ◌==◌, ◌&&◌, cond, Bool, true, false, List, [], ◌∷◌, length, take, drop, get_or, Option, Some, None, refl, sym, ap, ◌∙◌, length-drop, arith}
+use Rattle.std.proofs.Common.{◌≡◌, ℕ, ◌+◌, ◌-◌, ◌<◌, ◌≤◌, ◌==◌, ◌&&◌, cond, Bool, true, false, List, [], ◌∷◌, length, take, drop, get_or, Some, None, refl, sym, ap, ◌∙◌, length-drop, arith}
 use Rattle.std.proofs.lemmas.List.{drop_more, at_drop_more, take_all}
 use Rattle.trace_check.specs.declared.checking.parting.Mark.{Mark}
 use Rattle.trace_check.specs.Inputs.{marked, place_from}

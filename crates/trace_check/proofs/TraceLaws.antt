@@ -1,26 +1,31 @@
 -- A text is the trace of one journal, or has one first fault.
-use Rattle.std.proofs.Common.{◌≡◌, ℕ, zero, suc, ◌+◌, ◌<◌, ◌≤◌, cond, Bool, true, false, List, [], ◌∷◌, ◌++◌, length, map, Option, Some, None, Result, Ok, Err, MatchResult, ◌⊎◌, inl, inr, refl, sym, ap, subst, ◌∙◌, append_assoc, length-append, arith}
+use Rattle.std.proofs.Common.{◌≡◌, ℕ, ◌+◌, ◌<◌, ◌≤◌, cond, true, List, [], ◌∷◌, ◌++◌, length, Option, Some, None, Result, Ok, Err, MatchResult, ◌⊎◌, inl, inr, refl, sym, ap, subst, ◌∙◌, append_assoc, length-append, arith}
 use Rattle.std.specs.List.{flat_map, AllByRecursion}
 use Rattle.std.proofs.lemmas.Bool.{cases_lt}
 use Rattle.std.proofs.lemmas.List.{append-nil}
-use Rattle.std.proofs.lemmas.Option.{cond_some, none-some, same_Some, some_pair_parts}
+use Rattle.std.proofs.lemmas.Option.{cond_some, none-some, some_pair_parts}
 use Rattle.array_journal.specs.declared.at.At.{At}
 use Rattle.array_journal.specs.declared.entry.Entry.{Entry}
-use Rattle.array_journal.specs.Entries.{name_of, at_lt}
-use Rattle.array_journal.specs.May.{Rise}
+use Rattle.array_journal.specs.Entries.{name_of}
 use Rattle.array_journal.specs.Merge.{Rises}
 use Rattle.std.specs.Fmt.{decimal}
 use Rattle.stripe_check.specs.Traces.{field, event_text, entry_line, trace_of}
 use Rattle.trace_check.specs.declared.fault.TraceFault.{TraceFault}
 use Rattle.trace_check.specs.declared.fault.TraceFault.TheVariants as faults
-use Rattle.trace_check.specs.Steps.{◌>>=◌}
 use Rattle.trace_check.specs.Lines.{entry_at}
 use Rattle.trace_check.specs.Readable.{IsEntry, IsTraced, Spells, IsFirstFault}
-use Rattle.trace_check.specs.Journals.{last_name, goes_on, next_at, FailsAt, IsFault, Tells}
+use Rattle.trace_check.specs.Journals.{goes_on, next_at, FailsAt, IsFault, Tells}
 use Rattle.trace_check.proofs.Cuts.{bind-some}
+use Rattle.trace_check.proofs.InRange.{all-more}
 use Rattle.trace_check.proofs.EntryLaws.{entry-takes, entry-again}
 
 -- ---- one entry more
+
+-- the name of the last entry
+abbrev pub last_name : List Entry → Option At
+last_name [] = None
+last_name (e ∷ []) = Some (name_of e)
+last_name (e ∷ f ∷ journal) = last_name (f ∷ journal)
 
 pub trace-more : (journal : List Entry) (e : Entry) (rest : List ℕ) → trace_of (journal ++ e ∷ []) ++ rest ≡ trace_of journal ++ (entry_line e ++ rest)
 unfolding trace_of
@@ -30,16 +35,12 @@ trace-more (f ∷ journal) e rest =
     ∙ ap (λ (t : List ℕ). entry_line f ++ t) (trace-more journal e rest)
     ∙ sym (append_assoc (entry_line f) (flat_map entry_line journal) (entry_line e ++ rest))
 
-entries-more : (journal : List Entry) (e : Entry) → AllByRecursion IsEntry journal → IsEntry e → AllByRecursion IsEntry (journal ++ e ∷ [])
-entries-more [] e h k = (k, tt)
-entries-more (f ∷ journal) e h k = (h.0, entries-more journal e h.1 k)
-
-last-more : (journal : List Entry) (e : Entry) → last_name (journal ++ e ∷ []) ≡ Some (name_of e)
+pub last-more : (journal : List Entry) (e : Entry) → last_name (journal ++ e ∷ []) ≡ Some (name_of e)
 last-more [] e = refl
 last-more (f ∷ []) e = refl
 last-more (f ∷ g ∷ journal) e = last-more (g ∷ journal) e
 
-rises-more : (journal : List Entry) (e : Entry) → Rises journal → goes_on (last_name journal) e ≡ true → Rises (journal ++ e ∷ [])
+pub rises-more : (journal : List Entry) (e : Entry) → Rises journal → goes_on (last_name journal) e ≡ true → Rises (journal ++ e ∷ [])
 rises-more [] e h k = tt
 rises-more (f ∷ []) e h k = (k, tt)
 rises-more (f ∷ g ∷ journal) e h k = (h.0, rises-more (g ∷ journal) e h.1 k)
@@ -89,7 +90,7 @@ read-more bytes journal last rest e after r h =
     let longer : length (journal ++ e ∷ []) ≡ length journal + 1 = length-append journal (e ∷ []) in
     record {
       parts = r.parts ∙ ap (λ (xs : List ℕ). trace_of journal ++ xs) t.0 ∙ sym (trace-more journal e after);
-      traced = (entries-more journal e r.traced.0 t.1, rises-more journal e r.traced.1 goes);
+      traced = (all-more IsEntry journal e r.traced.0 t.1, rises-more journal e r.traced.1 goes);
       name = sym (last-more journal e);
       count = omega (arith, r.count, shorter, longer);
     }

@@ -1,5 +1,5 @@
 -- Causes of refusals by number.
-use Rattle.std.specs.Prelude.{ℕ, ◌==◌, if◌then◌else◌, Bool, true, false, Option, Some, None}
+use Rattle.std.specs.Prelude.{ℕ, Bool, true, false}
 use Rattle.array_journal.specs.declared.event.Why.{Why}
 use Rattle.array_journal.specs.declared.event.Why.TheVariants.{Illegal, Medium, NotReady, Unfitted, Present, Listed, Second, Clean, Absent, NotLost}
 
@@ -27,17 +27,3 @@ is_plain Second = true
 is_plain Clean = true
 is_plain Absent = true
 is_plain NotLost = true
-
--- the cause without a sense that has this number
-abbrev pub plain_of : ℕ → Option Why
-plain_of n =
-    if n == 1 then Some Medium
-    else if n == 2 then Some NotReady
-    else if n == 3 then Some Unfitted
-    else if n == 4 then Some Present
-    else if n == 5 then Some Listed
-    else if n == 6 then Some Second
-    else if n == 7 then Some Clean
-    else if n == 8 then Some Absent
-    else if n == 9 then Some NotLost
-    else None

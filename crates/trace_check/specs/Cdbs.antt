@@ -1,5 +1,5 @@
 -- The bytes of a CDB in a block of 16.
-use Rattle.std.specs.Prelude.{ℕ, zero, suc, ◌≡◌, ◌≤◌, ◌-◌, List, ◌++◌, length, Option, Some, None, slice_index}
+use Rattle.std.specs.Prelude.{ℕ, zero, suc, ◌≡◌, ◌≤◌, ◌-◌, List, ◌++◌, length, Option, Some, slice_index}
 use Rattle.std.proofs.Common.{refl, ◌∙◌}
 use Rattle.std.proofs.lemmas.List.{get_or-append_right}
 use Rattle.blocks_core.specs.Xor.{zeros}

@@ -1,11 +1,11 @@
 -- How a check ends, and why.
-use Rattle.std.specs.Prelude.{ℕ, ◌≡◌, ◌⊎◌, ◌==◌, if◌then◌else◌, List, [], ◌∷◌, length, codes, map, Option, Some, None, IfSome, String, string_bytes}
-use Rattle.std.specs.Io.KnownBytes.{Appends}
+use Rattle.std.specs.Prelude.{ℕ, ◌≡◌, ◌⊎◌, ◌≤◌, ◌==◌, if◌then◌else◌, List, [], ◌∷◌, length, codes, map, Option, Some, None, IfSome, String, string_bytes}
+use Rattle.std.specs.Io.KnownBytes.{Appends, IsAtEnd}
 use Rattle.std.specs.declared.alloc.Global.{Global}
 use Rattle.array_journal.specs.declared.entry.Entry.{Entry}
 use Rattle.host_scripts.specs.declared.script.Script.{Script}
 use Rattle.host_scripts.specs.Scripts.{line}
-use Rattle.outer_io.specs.Outside.{HasRisen, AppendsPrefix}
+use Rattle.outer_io.specs.Outside.{HasRisen, AppendsPrefix, input_limit}
 use Rattle.trace_check.specs.declared.checking.findings.Finding.{Finding}
 use Rattle.trace_check.specs.declared.checking.findings.Finding.TheVariants as findings
 use Rattle.trace_check.specs.declared.checking.findings.Stop.{Stop}
@@ -91,6 +91,17 @@ StopsFor words input before after Memory = AsksCheck words
 abbrev pub IsRunOf : List ℕ → ℕ → Type 0
 IsRunOf bytes entries = (script : Script) × ((journal : List Entry) × (IsSound bytes script journal × (entries ≡ length journal)))
 
+-- what is said of a stop that comes once the input is read
+abbrev pub AfterReading : Type 0 → Stop → Type 0
+AfterReading Said Usage = Unit {0}
+AfterReading Said ReadFault = Unit {0}
+AfterReading Said (Found finding note) = Said
+AfterReading Said Memory = Unit {0}
+
+-- nothing is left of an input that isn't too long
+abbrev pub IsReadWhole : Option (List ℕ) → Option (List ℕ) → Type 0
+IsReadWhole input left = IfSome input (λ bytes. length bytes ≤ input_limit → IsAtEnd left)
+
 -- the words ask for a check, and the text says how many entries the run has
 abbrev pub IsTold : List (List ℕ) → Option (List ℕ) → List ℕ → Type 0
 IsTold words input text = AsksCheck words × ((entries : ℕ) × (IfSome input (λ bytes. IsRunOf bytes entries) × (text ≡ accepted_line entries)))
@@ -101,6 +112,11 @@ IsDone words input before after = (text : List ℕ) × (IsTold words input text 
 
 abbrev pub IsCutShort : List (List ℕ) → Option (List ℕ) → Option (List ℕ) → Option (List ℕ) → Type 0
 IsCutShort words input before after = (text : List ℕ) × (IsTold words input text × AppendsPrefix before after text)
+
+-- notes have gained a beginning of the line that goes with what stops a check
+abbrev pub IsNoteCutShort : List (List ℕ) → Option (List ℕ) → ℕ → ℕ → Option (List ℕ) → Option (List ℕ) → Type 0
+IsNoteCutShort words input before after old new =
+    (stop : Stop) × (StopsFor words input before after stop × AppendsPrefix old new (note_of stop))
 
 -- notes have gained the line of a finding with this status
 abbrev pub IsNoted : List (List ℕ) → Option (List ℕ) → ℕ → Option (List ℕ) → Option (List ℕ) → Type 0

@@ -1,5 +1,5 @@
 -- Entries that follow one another.
-use Rattle.std.specs.Prelude.{ℕ, ◌≡◌, Bool, true, if◌then◌else◌, List, [], ◌∷◌, Option, Some, None, Result, Ok, Err}
+use Rattle.std.specs.Prelude.{ℕ, ◌≡◌, Bool, true, if◌then◌else◌, List, Option, Some, None, Result, Ok, Err}
 use Rattle.array_journal.specs.declared.at.At.{At}
 use Rattle.array_journal.specs.declared.entry.Entry.{Entry}
 use Rattle.array_journal.specs.Entries.{name_of, at_lt}
@@ -8,12 +8,6 @@ use Rattle.trace_check.specs.declared.fault.TraceFault.TheVariants as faults
 use Rattle.trace_check.specs.Steps.{◌>>=◌}
 use Rattle.trace_check.specs.Lines.{entry_at}
 use Rattle.trace_check.specs.Readable.{IsFirstFault}
-
--- the name of the last entry
-abbrev pub last_name : List Entry → Option At
-last_name [] = None
-last_name (e ∷ []) = Some (name_of e)
-last_name (e ∷ f ∷ journal) = last_name (f ∷ journal)
 
 -- an entry may stand behind one of that name
 abbrev pub goes_on : Option At → Entry → Bool

@@ -1,4 +1,5 @@
 pub mod Asking
+pub mod AskingSteps
 pub mod AskingJobs
 pub mod AskingBegins
 pub mod AskingTurns

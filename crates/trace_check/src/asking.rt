@@ -13,10 +13,12 @@ mod marks;
 mod owning;
 mod pieces;
 mod serving;
+mod steps;
 mod surveys;
 mod turns;
 mod walks;
 
+pub use crate::asking::beginning::setting_of;
 use crate::asking::calls::are_served;
 use crate::asking::owning::is_none_open;
 use crate::asking::surveys::survey_of;
@@ -36,8 +38,10 @@ fn are_all(in_turn: bool, served: bool, decided: bool, owned: bool, closed: bool
 /// Whether a journal is what the calls of a script ask for: each host's calls one after another, each
 /// call with the entries that it asks for, each piece begun as the book decides, no entry of no call,
 /// and no command left open. It isn't asked whether the journal is a run. Takes memory for the marks of
-/// the entries, their index and the steps of one call at a time. Each entry costs a few lookups, and each
-/// call looks through all marks once; the loss of a disk also looks through all entries for its note.
+/// the entries, their index and the steps of the calls. Most entries cost a few lookups, as in
+/// `run_fault`; an opening or a refusal also goes through the pieces of its call up to its own, so a call
+/// of many pieces costs half the square of their number. Each host looks through all marks once, and the
+/// loss of a disk through all entries for its note.
 pub fn asked(alloc: Global, script: &Script, journal: &Journal) -> Result<bool, Memory>
     requires script { IsScript script.now }
     requires calls { length script.now.calls < 2 ^ 32 }

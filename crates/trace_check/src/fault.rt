@@ -1,3 +1,5 @@
+//! Why nothing is read of a trace, or of a line.
+
 use blocks_core::Memory;
 
 /// Why there is no journal.

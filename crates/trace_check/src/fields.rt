@@ -1,6 +1,5 @@
 //! Fields of a line, each one word behind a space, and the groups of them that events share.
 
-ghost use Rattle.std.specs.Prelude.{◌≡◌};
 ghost use Rattle.trace_check.specs.Steps.{Gives};
 ghost use Rattle.trace_check.specs.Words.{number_of, data_of, at_of, cause_of, flag_of, what_of, kind_of};
 ghost use Rattle.trace_check.specs.Senses.{why_of};

@@ -6,7 +6,7 @@ mod buffers;
 mod commands;
 pub mod decision;
 mod disks;
-mod ending;
+pub mod ending;
 mod faults;
 mod folding;
 mod following;

@@ -21,11 +21,13 @@ pub use asking::asked;
 pub use checking::check;
 pub use fault::TraceFault;
 pub use judging::run_fault;
-pub use laws::printed_runs_are_accepted;
+pub use laws::{asked_journals_are_told, printed_runs_are_accepted};
 pub use ranges::printed_is_read;
 pub use reading::read_trace;
 
 #[cfg(test)]
 mod asked_tests;
+#[cfg(test)]
+mod check_tests;
 #[cfg(test)]
 mod tests;

@@ -1,6 +1,5 @@
 //! Names of events.
 
-ghost use Rattle.std.specs.Prelude.{◌≡◌};
 ghost use Rattle.trace_check.specs.Steps.{Reads};
 ghost use Rattle.trace_check.specs.Lines.{name_of};
 

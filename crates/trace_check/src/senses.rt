@@ -1,6 +1,6 @@
 //! Why a piece was refused.
 
-ghost use Rattle.std.specs.Prelude.{◌≡◌, ◌∷◌, []};
+ghost use Rattle.std.specs.Prelude.{◌∷◌, []};
 ghost use Rattle.trace_check.specs.Steps.{Reads};
 ghost use Rattle.trace_check.specs.Senses.{upper_of, key_of, code_of, pointed_of, sense_with, sense_made, sense_of, plain_why_of, why_of};
 

@@ -15,7 +15,8 @@ use crate::asking::deciding::both;
 use crate::asking::jobs::{Asks, Fault, asks_of, sense_made};
 use crate::asking::marks::{Mark, Step};
 use crate::asking::pieces::piece_count;
-use crate::asking::serving::{is_lost, is_replaced, steps_for};
+use crate::asking::serving::{is_lost, is_replaced};
+use crate::asking::steps::steps_of_calls;
 use crate::asking::walks::{Plan, goes_through};
 use array_journal::{What, Why};
 use blocks_core::Memory;
@@ -109,23 +110,14 @@ fn is_served_as(script: &Script, past: &Past, asks: Asks, steps: &[Step]) -> boo
     }
 }
 
-/// Whether the call of a number has the entries that it asks for.
-fn is_served(
-    alloc: Global,
-    script: &Script,
-    past: &Past,
-    marks: &[Mark],
-    number: u32,
-    call: &Call,
-) -> Result<bool, Memory>
+/// Whether a call has the entries that it asks for, of which these are the steps.
+fn is_served(script: &Script, past: &Past, steps: &[Step], call: &Call) -> bool
     requires script { IsScript script.now }
-    requires marked { AreMarksOf (reverse marks.now) (reverse past.now) }
-    requires few { length marks.now < 2 ^ 32 }
-    ensures { IfOk result (λ served. IsTrue served ↔ IsServed script.now (reverse past.now) (job_of script.now.geometry call.now.action) (steps_of number (reverse past.now))) }
+    requires few { length steps.now < 2 ^ 32 }
+    ensures { IsTrue result ↔ IsServed script.now (reverse past.now) (job_of script.now.geometry call.now.action) (map step_of steps.now) }
 {
-    let steps = steps_for(alloc, marks, number)?;
     let asks = asks_of(&script.geometry, &call.action);
-    Ok(is_served_as(script, past, asks, steps.as_slice()))
+    is_served_as(script, past, asks, steps)
 }
 
 /// Whether each call has.
@@ -141,9 +133,10 @@ pub fn are_served(
     requires few { length marks.now < 2 ^ 32 }
     ensures { IfOk result (λ served. IsTrue served ↔ AreServed script.now (reverse past.now) 1 script.now.calls) }
 {
+    let all = steps_of_calls(alloc, marks)?;
     let mut served = true;
     for (place, call) in script.calls.as_slice().iter().enumerate() {
-        let here = is_served(alloc, script, past, marks, place as u32 + 1, call)?;
+        let here = is_served(script, past, all.of(place as u32 + 1), call);
         served = both(here, served);
     }
     Ok(served)

@@ -1,6 +1,6 @@
 //! What a call asks of the array.
 
-ghost use Rattle.std.specs.Prelude.{◌≡◌, ◌==◌, ◌||◌, ◌≤◌, ◌+◌, ◌*◌, length, option_map, if◌then◌else◌, None, Some, MatchOption};
+ghost use Rattle.std.specs.Prelude.{◌≡◌, ◌==◌, ◌||◌, ◌≤◌, ◌+◌, ◌*◌, length, option_map, None, Some, MatchOption};
 ghost use Rattle.stripe_layout.specs.Layout.{IsArray, capacity_of};
 ghost use Rattle.stripe_check.specs.Jobs.{job_of, unless, moved, transfer_fault, cdb_fault, field_fault, first_offending, raw_transfer, bytes_due};
 ghost use Rattle.trace_check.specs.AskingJobs.{sense_of, transfer_of, job_now, payload_bytes, want_now, IsWithin};

@@ -1,52 +1,15 @@
 //! Whether a call has the entries that it asks for.
 
-ghost use Rattle.std.specs.Prelude.{◌≡◌, ◌==◌, ◌&&◌, ◌++◌, ◌∷◌, ◌≤◌, ◌<◌, ◌+◌, [], IfOk, OnOk, map, reverse, length, option_map};
+ghost use Rattle.std.specs.Prelude.{◌≡◌, ◌==◌, ◌&&◌, ◌∷◌, ◌+◌, [], map, reverse};
 ghost use Rattle.std.specs.Option.{option_copied};
-ghost use Rattle.array_journal.specs.Entries.{some_at, same_at};
+ghost use Rattle.array_journal.specs.Entries.{some_at};
 ghost use Rattle.stripe_check.specs.Asked.{is_loss_in, notes_life, is_lost, is_replaced};
-ghost use Rattle.stripe_check.specs.Steps.{step_list};
-ghost use Rattle.trace_check.specs.Asking.{step_of, steps_with, steps_in};
+ghost use Rattle.trace_check.specs.Asking.{step_of};
 
-use crate::asking::marks::{Mark, Step};
+use crate::asking::marks::Step;
+use crate::judging::ending::is_same_name;
 use array_journal::{At, Entry, Event, Why};
-use blocks_core::Memory;
 use journal_index::Past;
-use std::alloc::Global;
-
-/// The step of a mark, where it is the call's.
-fn step_for(mark: &Mark, number: u32) -> Option<Step>
-    ensures { step_list (option_map step_of result) ≡ steps_with number mark.now }
-{
-    match mark.call {
-        Some(call) => { if call == number { mark.step } else { None } }
-        None => None,
-    }
-}
-
-fn push_step(steps: &mut Vec<Step>, step: Option<Step>) -> Result<(), Memory>
-    ensures steps { OnOk result (map step_of steps.new.items ≡ map step_of steps.old.items ++ step_list (option_map step_of step)) }
-    ensures few { OnOk result (length steps.new.items ≤ length steps.old.items + 1) }
-{
-    match step {
-        Some(step) => {
-            steps.push(step)?;
-            Ok(())
-        }
-        None => Ok(()),
-    }
-}
-
-/// The steps of a call.
-pub fn steps_for(alloc: Global, marks: &[Mark], number: u32) -> Result<Vec<Step>, Memory>
-    ensures steps { IfOk result (λ steps. map step_of steps.items ≡ steps_in number (reverse marks.now)) }
-    ensures few { IfOk result (λ steps. length steps.items ≤ length marks.now) }
-{
-    let mut steps = Vec::new(alloc);
-    for mark in marks {
-        push_step(&mut steps, step_for(mark, number))?;
-    }
-    Ok(steps)
-}
 
 /// Whether an event is a loss in this life.
 fn is_loss_in(event: Option<&Event>, life: u32) -> bool
@@ -129,12 +92,6 @@ fn is_not_lost(step: Step, slot: u8) -> bool
         } => piece == 0,
         _ => false,
     }
-}
-
-fn is_same_name(a: At, b: At) -> bool
-    ensures { result ≡ same_at a b }
-{
-    a.stamp == b.stamp && a.lock == b.lock
 }
 
 fn is_fresh_for(slot: u8, swapped: Step, renewed: Step) -> bool

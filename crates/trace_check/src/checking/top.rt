@@ -1,28 +1,32 @@
-ghost use Rattle.std.specs.Prelude.{ℕ, List, ◌≡◌, ◌≢◌, ◌⊎◌, [], ◌∷◌, IfSome};
+//! The top call.
+
+ghost use Rattle.std.specs.Prelude.{List, ◌≡◌, ◌≢◌, ◌⊎◌, [], ◌∷◌, length, IfSome};
 ghost use Rattle.std.specs.Io.KnownBytes.{Appends};
 ghost use Rattle.array_journal.specs.declared.entry.Entry.{Entry};
 ghost use Rattle.host_scripts.specs.declared.script.Script.{Script};
 ghost use Rattle.outer_io.specs.Outside.{HasRisen, AppendsPrefix};
 ghost use Rattle.trace_check.specs.declared.checking.findings.Finding.{Finding};
 ghost use Rattle.trace_check.specs.Findings.{IsAccepted, IsFound};
-ghost use Rattle.trace_check.specs.Endings.{texts, AsksCheck, IsOneOf, IsDone, IsCutShort, IsNoted, finding_status, status_of, note_of, noted_for};
+ghost use Rattle.trace_check.specs.Endings.{texts, AsksCheck, IsOneOf, IsDone, IsCutShort, IsNoteCutShort, IsNoted, IsReadWhole, finding_status, status_of, note_of, noted_for};
+ghost use Rattle.trace_check.specs.Notes.{accepted_line, finding_line};
 
 use crate::checking::findings::Stop;
 use crate::checking::verdict::work;
 use outer_io::{Sink, Source, write_all};
 use std::alloc::Global;
 
-/// The status of a check that accepts, and that of a write that failed.
+/// The status of a check that accepts.
 const ACCEPTED: u8 = 0;
 
+/// The status of a check whose write failed.
 const WRITE_FAULT: u8 = 4;
 
 /// Checks a printed run, for the one word `check`: the source gives a script, a line `output`, and then
 /// the report and the trace of a run. What is accepted is said to `out`, with the number of entries; else
 /// one line goes to `notes`. The statuses: 0 where the output is that of a run of the script; 1 where it
 /// isn't; 2 where the script is refused; 3 where a read failed; 4 where a write failed; 5 for want of
-/// memory; 7 where a limit is passed; 64 for other words. Takes memory for the input, the journal and its
-/// report.
+/// memory; 7 where a limit is passed; 64 for other words. Takes memory for the input, its script and
+/// journal, what `run_fault` and `asked` take, and the report.
 pub fn check<S: Source, K: Sink, N: Sink>(
     alloc: Global,
     words: &[String],
@@ -46,6 +50,7 @@ pub fn check<S: Source, K: Sink, N: Sink>(
         × IsCutShort (texts words.now) (S.left source.old) (K.written out.old) (K.written out.new)
         × (N.written notes.new ≡ N.written notes.old))
         ⊎ (HasRisen (N.faults notes.old) (N.faults notes.new)
+        × IsNoteCutShort (texts words.now) (S.left source.old) (S.faults source.old) (S.faults source.new) (N.written notes.old) (N.written notes.new)
         × (K.written out.new ≡ K.written out.old)) }
     ensures no_memory { result ≡ 5 → AsksCheck (texts words.now) }
     ensures usage { result ≡ 64 → AsksCheck (texts words.now) → ⊥ }
@@ -54,10 +59,12 @@ pub fn check<S: Source, K: Sink, N: Sink>(
     // Where a status comes, unless a read fails (3), a write fails (4) or memory runs out (5).
     ensures accepts { AsksCheck (texts words.now) →
         IfSome (S.left source.old) (λ input. (script : Script) (journal : List Entry) → IsAccepted input script journal →
-        IsOneOf (0 ∷ 3 ∷ 4 ∷ 5 ∷ []) result) }
+        ((result ≡ 0) × Appends (K.written out.old) (K.written out.new) (accepted_line (length journal)))
+        ⊎ IsOneOf (3 ∷ 4 ∷ 5 ∷ []) result) }
     ensures finds { AsksCheck (texts words.now) →
         IfSome (S.left source.old) (λ input. (finding : Finding) → IsFound input finding →
-        IsOneOf (finding_status finding ∷ 3 ∷ 4 ∷ 5 ∷ []) result) }
+        ((result ≡ finding_status finding) × Appends (N.written notes.old) (N.written notes.new) (finding_line finding))
+        ⊎ IsOneOf (3 ∷ 4 ∷ 5 ∷ []) result) }
     ensures answers_usage { (AsksCheck (texts words.now) → ⊥) → IsOneOf (64 ∷ 4 ∷ []) result }
 
     // Where no count of faults rises, only want of memory keeps the input of a run from being accepted.
@@ -67,6 +74,12 @@ pub fn check<S: Source, K: Sink, N: Sink>(
         ¬ HasRisen (K.faults out.old) (K.faults out.new) →
         ¬ HasRisen (N.faults notes.old) (N.faults notes.new) →
         IsOneOf (0 ∷ 5 ∷ []) result) }
+
+    // What is read: all that there is, where a check is asked for and the input isn't too long; and else nothing.
+    ensures read_whole { AsksCheck (texts words.now) → IsOneOf (0 ∷ 1 ∷ 2 ∷ 7 ∷ []) result →
+        IsReadWhole (S.left source.old) (S.left source.new) }
+    ensures unread { (AsksCheck (texts words.now) → ⊥) →
+        (S.left source.new ≡ S.left source.old) × (S.faults source.new ≡ S.faults source.old) }
 
     // What else is written.
     ensures unwritten { result ≢ 0 → result ≢ 4 → K.written out.new ≡ K.written out.old }
@@ -94,9 +107,10 @@ fn hand_out<K: Sink>(out: &mut K, text: &[u8]) -> u8
 
 /// Writes why nothing is accepted.
 fn hand_note<N: Sink>(notes: &mut N, stop: &Stop) -> u8
-    ensures { ((result ≡ status_of stop.now)
+    ensures status { ((result ≡ status_of stop.now)
         × Appends (N.written notes.old) (N.written notes.new) (note_of stop.now))
         ⊎ ((result ≡ 4) × HasRisen (N.faults notes.old) (N.faults notes.new)) }
+    ensures begun { result ≡ 4 → AppendsPrefix (N.written notes.old) (N.written notes.new) (note_of stop.now) }
 {
     match write_all(notes, stop.note()) {
         Ok(()) => stop.status(),

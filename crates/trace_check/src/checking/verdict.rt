@@ -1,6 +1,6 @@
 //! What a check of an input comes to.
 
-ghost use Rattle.std.specs.Prelude.{◌≡◌, ◌≤◌, ◌<◌, ◌+◌, ◌^◌, ℕ, List, None, IfOk, IfErr, OnOk, IfSome, IsTrue, IsFalse, length};
+ghost use Rattle.std.specs.Prelude.{◌≡◌, ◌≤◌, ◌<◌, ◌+◌, ◌^◌, ℕ, List, None, IfOk, IfErr, IfSome, IsTrue, IsFalse, MatchResult, length};
 ghost use Rattle.array_journal.specs.declared.entry.Entry.{Entry};
 ghost use Rattle.array_journal.specs.Merge.{Rises};
 ghost use Rattle.array_journal.specs.Run.{Run};
@@ -11,18 +11,18 @@ ghost use Rattle.outer_io.specs.Outside.{input_limit};
 ghost use Rattle.stripe_check.specs.Asked.{IsAsked};
 ghost use Rattle.stripe_check.specs.Reports.{setting_of, report_of};
 ghost use Rattle.trace_check.specs.Findings.{IsFound, IsFoundIn, IsFoundOf, IsRunIn, IsScriptFault, IsTraceFault, IsJournalOf};
-ghost use Rattle.trace_check.specs.Endings.{texts, single_of, AsksCheck, IsTold, IsRunOf, StopsBy, StopsCheck, StopsFor};
+ghost use Rattle.trace_check.specs.Endings.{texts, single_of, AsksCheck, AfterReading, IsReadWhole, IsTold, IsRunOf, StopsBy, StopsCheck, StopsFor};
 ghost use Rattle.trace_check.specs.Steps.{Reads};
 ghost use Rattle.trace_check.specs.Notes.{accepted_line};
 
-use crate::asking::asked;
+use crate::asking::{asked, setting_of};
 use crate::checking::findings::{Finding, Stop, accepted_line, found};
 use crate::checking::lines::{differing_line, line_ends};
 use crate::checking::parting::parts;
 use crate::fault::TraceFault;
 use crate::judging::run_fault;
 use crate::reading::read_trace;
-use array_journal::{Journal, Setting};
+use array_journal::Journal;
 use blocks_core::Bytes;
 use host_scripts::{Cause, Script, ScriptFault, over, parse};
 use outer_io::{READ_LIMIT, Source, read_input};
@@ -59,6 +59,10 @@ pub(crate) fn work<S: Source>(
 ) -> Result<Bytes, Stop>
     ensures told { IfOk result (λ text. IsTold (texts words.now) (S.left source.old) text) }
     ensures stop { IfErr result (λ stop. StopsFor (texts words.now) (S.left source.old) (S.faults source.old) (S.faults source.new) stop) }
+    // The source is read to its end for a check, and else not at all.
+    ensures whole { AsksCheck (texts words.now) → MatchResult result (λ _. IsReadWhole (S.left source.old) (S.left source.new)) (λ stop. AfterReading (IsReadWhole (S.left source.old) (S.left source.new)) stop) }
+    ensures unread { (AsksCheck (texts words.now) → ⊥) →
+        (S.left source.new ≡ S.left source.old) × (S.faults source.new ≡ S.faults source.old) }
 {
     if asks_check(words) {
         source_line(alloc, source)
@@ -71,6 +75,7 @@ pub(crate) fn work<S: Source>(
 fn source_line<S: Source>(alloc: Global, source: &mut S) -> Result<Bytes, Stop>
     ensures told { IfOk result (λ text. (entries : ℕ) × (IfSome (S.left source.old) (λ bytes. IsRunOf bytes entries) × (text ≡ accepted_line entries))) }
     ensures stop { IfErr result (λ stop. StopsCheck (S.left source.old) (S.faults source.old) (S.faults source.new) stop) }
+    ensures whole { MatchResult result (λ _. IsReadWhole (S.left source.old) (S.left source.new)) (λ stop. AfterReading (IsReadWhole (S.left source.old) (S.left source.new)) stop) }
 {
     let input = read_input(alloc, source)?;
     input_line(alloc, input.as_slice())
@@ -158,17 +163,6 @@ fn journal_of(alloc: Global, trace: &[u8], ahead: u64) -> Result<Journal, Stop>
             },
         )),
         Err(TraceFault::Memory) => Err(Stop::Memory),
-    }
-}
-
-/// The setting of a script.
-fn setting_of(script: &Script) -> Setting
-    ensures { result ≡ setting_of script.now }
-{
-    Setting {
-        geometry: script.geometry,
-        buffer: script.buffer,
-        mode: script.mode,
     }
 }
 

@@ -1,12 +1,9 @@
 //! Whether an act of a command may follow.
 
-ghost use Rattle.std.specs.Prelude.{◌≡◌, ◌==◌, ℕ, List, ◌&&◌, ◌+◌, ◌*◌, ◌<◌, ◌↔◌, IsTrue, IfOk, length, map, reverse, MatchOption, None, Some};
-ghost use Rattle.std.specs.Option.{option_copied};
-ghost use Rattle.sbc_cdbs.specs.Cdbs.{cdb_bytes, Spells};
-ghost use Rattle.array_journal.specs.Acts.{has_act, is_act, cdb_of};
+ghost use Rattle.std.specs.Prelude.{◌≡◌, ◌==◌, ℕ, List, ◌&&◌, ◌+◌, ◌*◌, ◌<◌, IfOk, length, reverse, Some};
+ghost use Rattle.array_journal.specs.Acts.{has_act, is_act};
 ghost use Rattle.array_journal.specs.declared.entry.Entry.{Entry};
 ghost use Rattle.array_journal.specs.Entries.{some_at};
-ghost use Rattle.array_journal.specs.Lists.{slice};
 ghost use Rattle.journal_index.specs.Deeds.{deeds_of};
 ghost use Rattle.trace_check.specs.Judging.{opened_task};
 ghost use Rattle.trace_check.specs.JudgingActs.{may_act_here, has_rows, may_act, same_bool, may_fetch, may_put, may_diff, may_hold, of_opened};

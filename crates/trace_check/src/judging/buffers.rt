@@ -1,7 +1,7 @@
 //! What the buffers of the targets hold.
 
-ghost use Rattle.std.specs.Prelude.{◌≡◌, ◌==◌, ◌≤◌, ◌<◌, ◌++◌, ◌*◌, [], ◌∷◌, not, filter, List, MatchOption, OnOk, IfOk, map, length, get_or, ℕ, option_map, None, Some};
-ghost use Rattle.array_journal.specs.Media.{HeldBlocks, take_rows, rows_held, held_after, owners_of, with_owner};
+ghost use Rattle.std.specs.Prelude.{◌≡◌, ◌==◌, ◌≤◌, ◌<◌, ◌++◌, [], ◌∷◌, not, filter, List, MatchOption, OnOk, IfOk, map, length, get_or, ℕ, option_map, None, Some};
+ghost use Rattle.array_journal.specs.Media.{HeldBlocks, take_rows, rows_held, owners_of, with_owner};
 ghost use Rattle.trace_check.specs.JudgingHeld.{held_of, left_of, put_in, rows_in};
 
 use crate::judging::held::{Held, Rows, place_in, push_rest};

@@ -5,7 +5,6 @@ ghost use Rattle.std.specs.Str.{bytes_eq};
 ghost use Rattle.array_journal.specs.Acts.{Fetches, Puts, Diffs, Takes, Holds};
 ghost use Rattle.array_journal.specs.Entries.{same_at};
 ghost use Rattle.array_journal.specs.May.{first_taken, closed_bytes};
-ghost use Rattle.array_journal.specs.Run.{IsSetting};
 ghost use Rattle.trace_check.specs.Judging.{all_named};
 ghost use Rattle.trace_check.specs.JudgingEnds.{names_acts, cause_of_loss, may_close_whole, may_close_unfolded, cause_before, cause_of_kind, cause_at, is_cause, may_give_up, may_close, lost_delta, may_spoil};
 

@@ -1,6 +1,6 @@
 //! The first entry of a journal that may not follow the ones before it.
 
-ghost use Rattle.std.specs.Prelude.{◌≡◌, ◌<◌, ◌^◌, ◌↔◌, ◌∷◌, List, IsNone, IfOk, IfSome, OnOk, length, reverse};
+ghost use Rattle.std.specs.Prelude.{◌<◌, ◌^◌, ◌↔◌, ◌∷◌, List, IsNone, IfOk, IfSome, OnOk, length};
 ghost use Rattle.array_journal.specs.declared.entry.Entry.{Entry};
 ghost use Rattle.array_journal.specs.Merge.{Rises};
 ghost use Rattle.array_journal.specs.Run.{IsSetting, Run};
@@ -35,10 +35,12 @@ fn keep_entry(
 }
 
 /// The number, from 1, of the first entry of a journal that may not follow the ones before it. None
-/// exactly where the journal is a run. The journal's names rise, and the setting is in its ranges. An
-/// index of the entries so far, media and buffers are kept: an entry costs a few lookups, an opening
-/// also one for each command that is open. Only a fold in third-party mode reads the entries so far, for
-/// its delta.
+/// exactly where the journal is a run. The journal's names rise, and the setting is in its ranges. Takes
+/// memory for an index of the entries so far, and for the media and the buffers of all targets. Most
+/// entries cost a few lookups. An opening, a swap and the end of a command also go through the commands
+/// that are open, what asks for a slot's swaps goes through these, and what asks whether a unit is
+/// missing through its rebuilds since its slot was noted. A fold of a sent diff reads the entries so far
+/// for its delta, and makes the target's medium anew from them, with memory for all of it.
 pub fn run_fault(alloc: Global, setting: &Setting, journal: &Journal) -> Result<Option<u32>, Memory>
     requires in_range { IsSetting setting.now }
     requires rises { Rises journal.now }

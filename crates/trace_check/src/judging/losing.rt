@@ -1,7 +1,6 @@
 //! Whether a shut, or a fresh disk, may follow.
 
 ghost use Rattle.std.specs.Prelude.{◌≡◌, ◌<◌, ◌||◌, ℕ, List, reverse};
-ghost use Rattle.std.specs.Option.{option_map};
 ghost use Rattle.array_journal.specs.Acts.{changes_medium};
 ghost use Rattle.array_journal.specs.declared.entry.Entry.{Entry};
 ghost use Rattle.array_journal.specs.Entries.{entry_at, some_at};

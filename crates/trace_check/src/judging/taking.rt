@@ -1,6 +1,6 @@
 //! Whether held blocks may be taken, or a loss or a wipe may follow, over what the buffer holds.
 
-ghost use Rattle.std.specs.Prelude.{◌≡◌, ◌<◌, IfOk, length, reverse};
+ghost use Rattle.std.specs.Prelude.{◌≡◌, ◌<◌, IfOk, reverse};
 ghost use Rattle.std.specs.Str.{bytes_eq};
 ghost use Rattle.array_journal.specs.Media.{rows_held, owners_of};
 ghost use Rattle.trace_check.specs.JudgingActs.{same_found, may_take, may_lose, may_wipe, of_opened};

@@ -1,4 +1,3 @@
-use Rattle.std.proofs.Common.{Result, Ok, Err, MatchResult}
 use Rattle.trace_check.proofs.TraceLaws.{answer-spelt, answer-fault}
 use Rattle.trace_check.proofs.reading.read_trace.Goals as goal
 

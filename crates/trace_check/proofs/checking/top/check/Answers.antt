@@ -1,14 +1,42 @@
-use Rattle.trace_check.proofs.Completeness.{stop-accepts, stop-complete, stop-finds, told-finds}
+use Rattle.std.proofs.Common.{ℕ, List, inl, inr, refl, subst, sym}
+use Rattle.trace_check.specs.Endings.{IsTold, texts}
+use Rattle.trace_check.proofs.Completeness.{told-accepts, told-finds, stop-accepts, stop-complete, stop-cut_short, stop-finds, stop-read_whole}
 use Rattle.trace_check.proofs.checking.top.check.Goals as goal
 
-pub returns-in-Err-clause-accepts : goal.returns-in-Err-clause-accepts
-returns-in-Err-clause-accepts g c = stop-accepts _ _ _ _ _ _ _ _ _ _ c.in-Err.ensures.stop c.hand_note.ensures
+-- ---- a run
 
-pub returns-in-Err-clause-complete : goal.returns-in-Err-clause-complete
-returns-in-Err-clause-complete g c = stop-complete _ _ _ _ _ _ _ _ _ _ _ _ c.in-Err.ensures.stop c.hand_note.ensures
+pub returns-in-Ok-clause-accepts : goal.returns-in-Ok-clause-accepts
+returns-in-Ok-clause-accepts g c =
+    let told = subst (λ (t : List ℕ). IsTold (texts c.args.words.now) (g.S.Source.left c.args.source.now) t) (sym c.as_slice.ensures) c.in-Ok.ensures.told in
+    told-accepts _ _ _ _ _ _ _ _ told c.hand_out.ensures
 
 pub returns-in-Ok-clause-finds : goal.returns-in-Ok-clause-finds
-returns-in-Ok-clause-finds g c = told-finds _ _ _ _ c.in-Ok.ensures.told
+returns-in-Ok-clause-finds g c = told-finds _ _ _ _ _ _ c.in-Ok.ensures.told
+
+pub returns-in-Ok-clause-read_whole : goal.returns-in-Ok-clause-read_whole
+returns-in-Ok-clause-read_whole g c = λ asks one. c.in-Ok.ensures.whole asks
+
+pub returns-in-Ok-clause-unread : goal.returns-in-Ok-clause-unread
+returns-in-Ok-clause-unread g c = c.work.ensures.unread
+
+-- ---- what stops a check
+
+pub returns-in-Err-clause-accepts : goal.returns-in-Err-clause-accepts
+returns-in-Err-clause-accepts g c = stop-accepts _ _ _ _ _ _ _ _ _ _ _ _ c.in-Err.ensures.stop c.hand_note.ensures.status
+
+pub returns-in-Err-clause-complete : goal.returns-in-Err-clause-complete
+returns-in-Err-clause-complete g c = stop-complete _ _ _ _ _ _ _ _ _ _ _ _ c.in-Err.ensures.stop c.hand_note.ensures.status
 
 pub returns-in-Err-clause-finds : goal.returns-in-Err-clause-finds
-returns-in-Err-clause-finds g c = stop-finds _ _ _ _ _ _ _ _ _ _ c.in-Err.ensures.stop c.hand_note.ensures
+returns-in-Err-clause-finds g c = stop-finds _ _ _ _ _ _ _ _ _ _ c.in-Err.ensures.stop c.hand_note.ensures.status
+
+pub returns-in-Err-clause-write_fault : goal.returns-in-Err-clause-write_fault
+returns-in-Err-clause-write_fault g c = λ four.
+    let cut = stop-cut_short _ _ _ _ _ _ _ _ _ _ c.in-Err.ensures.stop c.hand_note.ensures.status c.hand_note.ensures.begun four in
+    inr (cut.0, cut.1, refl)
+
+pub returns-in-Err-clause-read_whole : goal.returns-in-Err-clause-read_whole
+returns-in-Err-clause-read_whole g c = λ asks one. stop-read_whole _ _ _ _ _ _ _ (c.in-Err.ensures.whole asks) c.hand_note.ensures.status one
+
+pub returns-in-Err-clause-unread : goal.returns-in-Err-clause-unread
+returns-in-Err-clause-unread g c = c.work.ensures.unread

@@ -1,8 +1,9 @@
 use Rattle.std.proofs.Common.{subst, List, ℕ}
 use Rattle.std.proofs.lemmas.Result.{IfOk-weaker, IfErr-weaker}
-use Rattle.trace_check.specs.Endings.{StopsBy, IsRunOf}
+use Rattle.trace_check.specs.Endings.{StopsBy, IsReadWhole, IsRunOf}
 use Rattle.trace_check.specs.Findings.{IsFound}
-use Rattle.trace_check.proofs.Accepted.{run-read, stops-read}
+use Rattle.trace_check.proofs.Accepted.{run-read, stops-read, whole-left}
+use Rattle.trace_check.proofs.Completeness.{after-both}
 use Rattle.trace_check.proofs.checking.verdict.source_line.Goals as goal
 
 pub returns-clause-told : goal.returns-clause-told
@@ -12,3 +13,7 @@ returns-clause-told g c =
 pub returns-clause-stop : goal.returns-clause-stop
 returns-clause-stop g c =
     IfErr-weaker c.input_line.result _ _ (λ stop s. stops-read _ c.in_ok-input.input _ _ stop c.in_ok-input.ensures.bytes (let P : List ℕ → Type 0 = λ b. StopsBy (IsFound b) stop in subst P c.as_slice.ensures s)) c.input_line.ensures.stop
+
+pub returns-clause-whole : goal.returns-clause-whole
+returns-clause-whole g c =
+    after-both _ c.input_line.result (whole-left _ _ c.in_ok-input.input c.in_ok-input.ensures.bytes c.in_ok-input.ensures.end)
