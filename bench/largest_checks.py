@@ -4,9 +4,9 @@
   bench/largest_checks.py
 
 Each run is what `xorarray step --trace` prints of a script with as many calls as a script may have, and of one with half of
-them: writes of one block again and again, writes of many blocks, and writes with reads behind them. The script, the line
-`output` and what was printed are checked several times, of which the least processor time counts. The check of twice the
-calls is held against a bar for the ratio of the times. It ends with 1 where a check fails or a ratio is above the bar.
+them: writes of one block again and again, writes to one block after another, and writes with reads behind them. The script,
+the line `output` and what was printed are checked several times, of which the least processor time counts. The check of twice
+the calls is held against a bar for the ratio of the times. It ends with 1 where a check fails or a ratio is above the bar.
 """
 import os
 import subprocess
@@ -58,7 +58,7 @@ def measure(name, make, folder):
         entries = accepted(runs)
         good = good and entries > 0
         size = os.path.getsize(runs.path) / MEGABYTE
-        print(f"{name:24} {runs.calls:6} calls {entries:6} entries {size:5.1f} MB {runs.least():7.3f} s {runs.memory:5.0f} MiB")
+        print(f"{name:24} {runs.calls:6} calls {entries:6} entries {size:5.1f} MB {runs.least():7.3f} s")
     ratio = both[1].least() / both[0].least()
     print(f"{name:24} ratio {ratio:.2f}")
     return good and ratio <= BAR
