@@ -11,7 +11,7 @@ use Rattle.sbc_cdbs.specs.Faults.{mask_of}
 use Rattle.sbc_cdbs.specs.Reading.{command_of}
 use Rattle.sbc_cdbs.proofs.Spelled.{transfer_mask, xdwrite_mask, xdread_mask, select_mask, sense_mask, extended_mask, rebuild_mask}
 use Rattle.sbc_cdbs.specs.declared.commands.Command.{Command}
-use Rattle.sbc_cdbs.specs.declared.commands.Command.TheVariants.{Read, Write, XdWrite, XpWrite, XdRead, ModeSelect, ModeSense, XdWriteExtended, Rebuild, Regenerate}
+use Rattle.sbc_cdbs.specs.declared.commands.Command.TheVariants.{Read, Write, XdWrite, XpWrite, XdRead, XdWriteRead, ModeSelect, ModeSense, XdWriteExtended, Rebuild, Regenerate}
 
 -- the bits of byte 1 are read back
 two : (a b : Bool) → (eqb (bits 4 4 (flag 4 a + flag 3 b)) 1 ≡ a) × (eqb (bits 3 3 (flag 4 a + flag 3 b)) 1 ≡ b)
@@ -76,6 +76,11 @@ again (XdRead lba count) h =
     let one = four lba (0 ∷ to_be_bytes w16 count ++ 0 ∷ []) h.0 in
     let last = pair count (0 ∷ []) h.1 in
     cc (one, last)
+again (XdWriteRead dpo fua disable lba count) h =
+    let flags = three dpo fua disable in
+    let one = four lba (0 ∷ to_be_bytes w16 count ++ 0 ∷ []) h.0 in
+    let last = pair count (0 ∷ []) h.1 in
+    cc (flags.0, flags.1, flags.2, one, last)
 again (ModeSelect pf sp list) h =
     let flags = select pf sp in
     let last = pair list (0 ∷ []) h in
@@ -149,6 +154,8 @@ clean (XpWrite dpo fua lba count) =
     record { mask = transfer_mask; known = refl; long = refl; none = zip_none transfer_mask (spelling (XpWrite dpo fua lba count)) (refl, (two_clean dpo fua, (refl, (refl, (refl, (refl, (refl, (refl, (refl, (refl, tt)))))))))) }
 clean (XdRead lba count) =
     record { mask = xdread_mask; known = refl; long = refl; none = zip_none xdread_mask (spelling (XdRead lba count)) (refl, (refl, (refl, (refl, (refl, (refl, (refl, (refl, (refl, (refl, tt)))))))))) }
+clean (XdWriteRead dpo fua disable lba count) =
+    record { mask = xdwrite_mask; known = refl; long = refl; none = zip_none xdwrite_mask (spelling (XdWriteRead dpo fua disable lba count)) (refl, (three_clean dpo fua disable, (refl, (refl, (refl, (refl, (refl, (refl, (refl, (refl, tt)))))))))) }
 clean (ModeSelect pf sp list) =
     record { mask = select_mask; known = refl; long = refl; none = zip_none select_mask (spelling (ModeSelect pf sp list)) (refl, (select_clean pf sp, (refl, (refl, (refl, (refl, (refl, (refl, (refl, (refl, tt)))))))))) }
 clean (ModeSense dbd pc page allocation) =

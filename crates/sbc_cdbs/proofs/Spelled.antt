@@ -146,6 +146,12 @@ xdread xs mask t =
     of_cells 9 (Reads 0x52) 0x52 xs (long_as xdread_mask mask xs t.known t.long) t.first
     (transfer_line 0x52 _ xs t.small (all_reserved (get_or xs 1 0) (t.small 1) (none 1)) (none 6) (none 9), transfer_fits 0x52 xs t.small)
 
+xdwriteread : (xs mask : List ℕ) → Block 0x53 xs mask → Reads 0x53 xs
+xdwriteread xs mask t =
+    let none = masked xdwrite_mask mask xs t.known t.none in
+    of_cells 9 (Reads 0x53) 0x53 xs (long_as xdwrite_mask mask xs t.known t.long) t.first
+    (transfer_line 0x53 _ xs t.small (three_flags (get_or xs 1 0) (t.small 1) (none 1)) (none 6) (none 9), transfer_fits 0x53 xs t.small)
+
 mode_select : (xs mask : List ℕ) → Block 0x55 xs mask → Reads 0x55 xs
 mode_select xs mask t =
     let none = masked select_mask mask xs t.known t.none in
@@ -204,8 +210,8 @@ regenerate xs mask t =
     (cc (line, zero_14), long_fits 0x82 xs t.small)
 
 -- no other code is known
-unknown : (code : ℕ) → code ≢ 0x28 → code ≢ 0x2a → code ≢ 0x51 → code ≢ 0x50 → code ≢ 0x52 → code ≢ 0x55 → code ≢ 0x5a → code ≢ 0x80 → code ≢ 0x81 → code ≢ 0x82 → reserved_bits code ≡ None
-unknown code a b c d e f g h i j = grind (arith, nat_tests)
+unknown : (code : ℕ) → code ≢ 0x28 → code ≢ 0x2a → code ≢ 0x51 → code ≢ 0x50 → code ≢ 0x53 → code ≢ 0x52 → code ≢ 0x55 → code ≢ 0x5a → code ≢ 0x80 → code ≢ 0x81 → code ≢ 0x82 → reserved_bits code ≡ None
+unknown code a b c d e f g h i j k = grind (arith, nat_tests)
 
 pub spelled : (code : ℕ) (xs mask : List ℕ) → Block code xs mask → Reads code xs
 spelled code xs mask t =
@@ -221,25 +227,29 @@ spelled code xs mask t =
                       elim (cases_eq code 0x50) [
                         | inl e ↦ at 0x50 e (xdwrite xs mask)
                         | inr d ↦
-                            elim (cases_eq code 0x52) [
-                              | inl e ↦ at 0x52 e (xdread xs mask)
+                            elim (cases_eq code 0x53) [
+                              | inl e ↦ at 0x53 e (xdwriteread xs mask)
                               | inr f ↦
-                                  elim (cases_eq code 0x55) [
-                                    | inl e ↦ at 0x55 e (mode_select xs mask)
+                                  elim (cases_eq code 0x52) [
+                                    | inl e ↦ at 0x52 e (xdread xs mask)
                                     | inr g ↦
-                                        elim (cases_eq code 0x5a) [
-                                          | inl e ↦ at 0x5a e (mode_sense xs mask)
+                                        elim (cases_eq code 0x55) [
+                                          | inl e ↦ at 0x55 e (mode_select xs mask)
                                           | inr h ↦
-                                              elim (cases_eq code 0x80) [
-                                                | inl e ↦ at 0x80 e (xdwrite_extended xs mask)
+                                              elim (cases_eq code 0x5a) [
+                                                | inl e ↦ at 0x5a e (mode_sense xs mask)
                                                 | inr i ↦
-                                                    elim (cases_eq code 0x81) [
-                                                      | inl e ↦ at 0x81 e (rebuild xs mask)
+                                                    elim (cases_eq code 0x80) [
+                                                      | inl e ↦ at 0x80 e (xdwrite_extended xs mask)
                                                       | inr j ↦
-                                                          elim (cases_eq code 0x82) [
-                                                            | inl e ↦ at 0x82 e (regenerate xs mask)
+                                                          elim (cases_eq code 0x81) [
+                                                            | inl e ↦ at 0x81 e (rebuild xs mask)
                                                             | inr k ↦
-                                                                absurd (none_some (sym (unknown code a b c d f g h i j k) ∙ t.known))
+                                                                elim (cases_eq code 0x82) [
+                                                                  | inl e ↦ at 0x82 e (regenerate xs mask)
+                                                                  | inr l ↦
+                                                                      absurd (none_some (sym (unknown code a b c d f g h i j k l) ∙ t.known))
+                                                                ]
                                                           ]
                                                     ]
                                               ]

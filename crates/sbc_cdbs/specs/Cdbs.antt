@@ -5,7 +5,7 @@ use Rattle.std.specs.Int.{w16, w32, to_be_bytes}
 use Rattle.cdb_fields.specs.Fields.{flag}
 use Rattle.sbc_cdbs.specs.declared.descriptor.Cdb.{Cdb}
 use Rattle.sbc_cdbs.specs.declared.commands.Command.{Command}
-use Rattle.sbc_cdbs.specs.declared.commands.Command.TheVariants.{Read, Write, XdWrite, XpWrite, XdRead, ModeSelect, ModeSense, XdWriteExtended, Rebuild, Regenerate}
+use Rattle.sbc_cdbs.specs.declared.commands.Command.TheVariants.{Read, Write, XdWrite, XpWrite, XdRead, XdWriteRead, ModeSelect, ModeSense, XdWriteExtended, Rebuild, Regenerate}
 
 -- The bytes that spell a command: its operation code, byte 1 with its flags, and its numbers. CONTROL is
 -- the last byte.
@@ -20,6 +20,8 @@ spelling (XpWrite dpo fua lba count) =
     0x51 ∷ (flag 4 dpo + flag 3 fua) ∷ to_be_bytes w32 lba ++ 0 ∷ to_be_bytes w16 count ++ 0 ∷ []
 spelling (XdRead lba count) =
     0x52 ∷ 0 ∷ to_be_bytes w32 lba ++ 0 ∷ to_be_bytes w16 count ++ 0 ∷ []
+spelling (XdWriteRead dpo fua disable lba count) =
+    0x53 ∷ (flag 4 dpo + flag 3 fua + flag 2 disable) ∷ to_be_bytes w32 lba ++ 0 ∷ to_be_bytes w16 count ++ 0 ∷ []
 spelling (ModeSelect pf sp list) =
     0x55 ∷ (flag 4 pf + flag 0 sp) ∷ 0 ∷ 0 ∷ 0 ∷ 0 ∷ 0 ∷ to_be_bytes w16 list ++ 0 ∷ []
 spelling (ModeSense dbd pc page allocation) =
@@ -41,6 +43,7 @@ Fits (Write dpo fua lba count) = (lba < 2 ^ 32) × (count < 2 ^ 16)
 Fits (XdWrite dpo fua disable lba count) = (lba < 2 ^ 32) × (count < 2 ^ 16)
 Fits (XpWrite dpo fua lba count) = (lba < 2 ^ 32) × (count < 2 ^ 16)
 Fits (XdRead lba count) = (lba < 2 ^ 32) × (count < 2 ^ 16)
+Fits (XdWriteRead dpo fua disable lba count) = (lba < 2 ^ 32) × (count < 2 ^ 16)
 Fits (ModeSelect pf sp list) = list < 2 ^ 16
 Fits (ModeSense dbd pc page allocation) = (pc ≤ 3) × (page ≤ 63) × (allocation < 2 ^ 16)
 Fits (XdWriteExtended dpo fua disable lba second count address) =
@@ -60,6 +63,7 @@ CanEncode (Write dpo fua lba count) = Unit {0}
 CanEncode (XdWrite dpo fua disable lba count) = Unit {0}
 CanEncode (XpWrite dpo fua lba count) = Unit {0}
 CanEncode (XdRead lba count) = Unit {0}
+CanEncode (XdWriteRead dpo fua disable lba count) = Unit {0}
 CanEncode (ModeSelect pf sp list) = Unit {0}
 CanEncode (XdWriteExtended dpo fua disable lba second count address) = Unit {0}
 CanEncode (Rebuild dpo fua intdata lba count list) = Unit {0}

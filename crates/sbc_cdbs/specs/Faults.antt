@@ -10,7 +10,7 @@ abbrev pub reserved_bits : ℕ → Option (List ℕ)
 reserved_bits code =
     if code == 0x28 || code == 0x2a || code == 0x51 then
     Some (0 ∷ 0xe7 ∷ 0 ∷ 0 ∷ 0 ∷ 0 ∷ 0xff ∷ 0 ∷ 0 ∷ 0xff ∷ [])
-    else if code == 0x50 then
+    else if code == 0x50 || code == 0x53 then
     Some (0 ∷ 0xe3 ∷ 0 ∷ 0 ∷ 0 ∷ 0 ∷ 0xff ∷ 0 ∷ 0 ∷ 0xff ∷ [])
     else if code == 0x52 then
     Some (0 ∷ 0xff ∷ 0 ∷ 0 ∷ 0 ∷ 0 ∷ 0xff ∷ 0 ∷ 0 ∷ 0xff ∷ [])

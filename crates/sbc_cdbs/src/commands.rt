@@ -36,6 +36,14 @@ pub enum Command {
         lba: u32,
         length: u16,
     },
+    /// XDWRITEREAD(10); `disable` keeps the medium as it is (DISABLE WRITE).
+    XdWriteRead {
+        dpo: bool,
+        fua: bool,
+        disable: bool,
+        lba: u32,
+        length: u16,
+    },
     /// MODE SELECT(10).
     ModeSelect {
         pf: bool,

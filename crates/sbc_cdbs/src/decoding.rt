@@ -72,7 +72,7 @@ fn reserved(code: u8) -> Option<&'static [u8]>
 {
     match code {
         READ | WRITE | XPWRITE => Some(&TRANSFER_RESERVED),
-        XDWRITE => Some(&XDWRITE_RESERVED),
+        XDWRITE | XDWRITEREAD => Some(&XDWRITE_RESERVED),
         XDREAD => Some(&XDREAD_RESERVED),
         MODE_SELECT => Some(&MODE_SELECT_RESERVED),
         MODE_SENSE => Some(&MODE_SENSE_RESERVED),
@@ -92,6 +92,7 @@ fn short_values(code: u8, cdb: &[u8; 10]) -> Command
         XDWRITE => xdwrite!(XdWrite, get cdb),
         XPWRITE => transfer!(XpWrite, get cdb),
         XDREAD => xdread!(XdRead, get cdb),
+        XDWRITEREAD => xdwrite!(XdWriteRead, get cdb),
         MODE_SELECT => mode_select!(ModeSelect, get cdb),
         MODE_SENSE => mode_sense!(ModeSense, get cdb),
         _ => unreachable!(),

@@ -31,6 +31,9 @@ pub fn encode(command: &Command) -> Cdb
         Command::XdWrite { .. } => block!(XDWRITE, [0; 10], of_ten, xdwrite(XdWrite, command)),
         Command::XpWrite { .. } => block!(XPWRITE, [0; 10], of_ten, transfer(XpWrite, command)),
         Command::XdRead { .. } => block!(XDREAD, [0; 10], of_ten, xdread(XdRead, command)),
+        Command::XdWriteRead { .. } => {
+            block!(XDWRITEREAD, [0; 10], of_ten, xdwrite(XdWriteRead, command))
+        }
         Command::ModeSelect { .. } => block!(
             MODE_SELECT,
             [0; 10],

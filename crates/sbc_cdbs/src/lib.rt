@@ -1,4 +1,4 @@
-//! The command descriptor blocks of an XOR disk array: ten commands of SBC and SPC, as values and as
+//! The command descriptor blocks of an XOR disk array: eleven commands of SBC and SPC, as values and as
 //! bytes.
 #![tactic(auto)]
 

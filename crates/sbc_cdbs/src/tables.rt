@@ -11,6 +11,8 @@ pub(crate) const XPWRITE: u8 = 0x51;
 
 pub(crate) const XDREAD: u8 = 0x52;
 
+pub(crate) const XDWRITEREAD: u8 = 0x53;
+
 pub(crate) const MODE_SELECT: u8 = 0x55;
 
 pub(crate) const MODE_SENSE: u8 = 0x5a;
@@ -30,6 +32,7 @@ macro_rules! transfer {
 
 pub(crate) const TRANSFER_RESERVED: [u8; 10] = [0, 0xe7, 0, 0, 0, 0, 0xff, 0, 0, 0xff];
 
+/// XDWRITE and XDWRITEREAD(10).
 macro_rules! xdwrite {
     ($variant:ident, $($how:tt)+) => {
         fields!($($how)+; Command::$variant {
