@@ -1,9 +1,9 @@
 -- The laws of the exclusive-or of lists.
-use Rattle.std.proofs.Common.{◌≡◌, ℕ, zero, suc, ◌+◌, ◌<◌, List, [], ◌∷◌, ◌++◌, length, get_or, take, drop, set, refl, ap, sym, ◌∙◌, arith}
-use Rattle.std.specs.Prelude.{bit_xor, replicate}
+use Rattle.std.proofs.Common.{◌≡◌, ℕ, zero, suc, ◌<◌, List, [], ◌∷◌, ◌++◌, length, get_or, take, drop, set, refl, ap, sym, ◌∙◌, arith}
+use Rattle.std.specs.Prelude.{bit_xor}
 use Rattle.std.specs.Int.Bits.{xor_assoc, xor_self, xor_zero_l, xor_zero_r}
 use Rattle.std.proofs.lemmas.Nat.{xor_comm}
-use Rattle.blocks_core.specs.Xor.{xor, zeros, xor_all}
+use Rattle.blocks_core.specs.Xor.{xor, zeros}
 
 -- nothing with a list is the list
 pub xor-nil_r : (a : List ℕ) → xor a [] ≡ a

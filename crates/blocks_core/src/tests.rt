@@ -38,12 +38,3 @@ fn blocks_are_whole(rt: HostRuntime) -> Result<(), Fail> {
     assert_eq!(rt; c.as_slice(), [4, 4, 4, 12].as_slice());
     Ok(())
 }
-
-#[test]
-fn other_bytes_are_ragged(rt: HostRuntime) -> Result<(), Fail> {
-    for block in [0, 3, 8] {
-        let ragged = Blocks::new(block, bytes(&rt, [0; 4])?).err();
-        assert_eq!(rt; ragged, Some(Ragged { block, len: 4 }), "block {block}");
-    }
-    Ok(())
-}

@@ -9,6 +9,3 @@ mod table;
 pub use bit_fields::{Field, bits_law};
 pub use numbers::{Number, number_law};
 pub use reserved::first_reserved;
-
-#[cfg(test)]
-mod tests;
