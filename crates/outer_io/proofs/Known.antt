@@ -1,10 +1,10 @@
 -- What is known of the bytes of a source or a sink after several calls.
 use Rattle.std.proofs.Common.{◌≡◌, ℕ, ◌+◌, ◌-◌, ◌≤◌, List, [], ◌++◌, length, take, drop, refl, ap, sym, ◌∙◌, append_assoc, append-nil, length-drop, arith, Option, Some, None, Result, Ok, Err}
-use Rattle.std.proofs.lemmas.List.{take_all}
-use Rattle.std.proofs.Math.Seq.{take-add, take-append_seam}
+use Rattle.std.proofs.lemmas.List.{take_all, drop_all}
+use Rattle.std.proofs.Math.Seq.{take-add, take-append_seam, drop-append_seam}
 use Rattle.std.specs.Prelude.{IfSome, OnErr}
 use Rattle.std.specs.Io.KnownBytes.{Appends, Consumes, IsAtEnd}
-use Rattle.outer_io.specs.Outside.{HasRisen, AppendsPrefix}
+use Rattle.outer_io.specs.Outside.{HasRisen, AppendsPrefix, LosesAtMost}
 
 -- nothing was taken yet
 pub Consumes-none : (a : Option (List ℕ)) → Consumes a a []
@@ -66,17 +66,36 @@ pub at-err : {T E P : Type 0} → (r : Result T E) → P → OnErr r P
 at-err (Ok x) p = tt
 at-err (Err e) p = p
 
--- a call that gave nothing because nothing was left
-pub taken-at_end : (n : ℕ) (a b c : Option (List ℕ)) (bytes buffer : List ℕ) (count : ℕ) → Consumes a b bytes → Consumes b c (take count buffer) → count ≡ 0 → IsAtEnd c → length bytes ≤ n → IfSome a (λ left. bytes ≡ take n left)
-taken-at_end n None b c bytes buffer count p q z e h = tt
-taken-at_end n (Some l) None c bytes buffer count p q z e h = absurd p
-taken-at_end n (Some l) (Some m) None bytes buffer count p q z e h = absurd q
-taken-at_end n (Some l) (Some m) (Some r) bytes buffer count p q z e h =
-    let empty : m ≡ [] = q ∙ ap (λ k. take k buffer ++ r) z ∙ e in
-    taken-all n (Some l) (Some m) bytes p empty h
+-- a call that gave nothing changed nothing
+pub Consumes-after_none : (a b c : Option (List ℕ)) (bytes buffer : List ℕ) (count : ℕ) → Consumes a b bytes → Consumes b c (take count buffer) → count ≡ 0 → Consumes a c bytes
+Consumes-after_none a b c bytes buffer count p q z =
+    let none : Consumes b c [] = rw z at q in
+    rw (← append-nil bytes) (Consumes-more a b c bytes [] p none)
 
 -- the first bytes, and some of the rest, are more of the first bytes
 pub Appends-part : (a b c : Option (List ℕ)) (done count : ℕ) (bytes : List ℕ) → Appends a b (take done bytes) → Appends b c (take count (take (length bytes - done) (drop done bytes))) → Appends a c (take (done + count) bytes)
 Appends-part a b c done count bytes p q =
     let rest : Appends b c (take count (drop done bytes)) = rw rest-whole at q in
     rw take-add (Appends-more a b c (take done bytes) (take count (drop done bytes)) p rest)
+
+-- who gave so many bytes lost no more
+pub LosesAtMost-given : (most : ℕ) (a b : Option (List ℕ)) (bytes : List ℕ) → Consumes a b bytes → length bytes ≤ most → LosesAtMost most a b
+LosesAtMost-given most None b bytes p h = tt
+LosesAtMost-given most (Some l) None bytes p h = absurd p
+LosesAtMost-given most (Some l) (Some m) bytes p h =
+    (length bytes, h, sym (ap (drop (length bytes)) p ∙ drop-append_seam bytes m))
+
+-- at its end nothing is left behind the first bytes either
+pub rest-all : (n : ℕ) (a b : Option (List ℕ)) (bytes : List ℕ) → Consumes a b bytes → IsAtEnd b → length bytes ≤ n → IfSome a (λ left. b ≡ Some (drop n left))
+rest-all n None b bytes p e h = tt
+rest-all n (Some l) None bytes p e h = absurd p
+rest-all n (Some l) (Some m) bytes p e h =
+    let whole : l ≡ bytes = p ∙ ap (λ t. bytes ++ t) e ∙ append-nil bytes in
+    ap Some (e ∙ sym (ap (drop n) whole ∙ drop_all n bytes h))
+
+-- a source that gave n bytes has left what stands behind the first n
+pub rest-first : (n : ℕ) (a b : Option (List ℕ)) (bytes : List ℕ) → Consumes a b bytes → length bytes ≡ n → IfSome a (λ left. b ≡ Some (drop n left))
+rest-first n None b bytes p h = tt
+rest-first n (Some l) None bytes p h = absurd p
+rest-first n (Some l) (Some m) bytes p h =
+    ap Some (sym (ap (λ k. drop k l) (sym h) ∙ ap (drop (length bytes)) p ∙ drop-append_seam bytes m))

@@ -1,7 +1,6 @@
-ghost use Rattle.std.specs.Prelude.{◌≡◌, ◌≤◌, ◌+◌, length, take, IfOk, OnOk, IfSome, IsErrOf};
-ghost use Rattle.std.specs.Io.KnownBytes.{IsAtEnd};
-ghost use Rattle.outer_io.specs.Outside.{HasRisen};
-ghost use Rattle.outer_io.specs.Outside.{input_limit};
+ghost use Rattle.std.specs.Prelude.{◌≡◌, ◌≤◌, ◌+◌, length, take, drop, Some, IfOk, OnOk, IfSome, IsErrOf};
+ghost use Rattle.std.specs.Io.KnownBytes.{Consumes, IsAtEnd};
+ghost use Rattle.outer_io.specs.Outside.{HasRisen, LosesAtMost, input_limit};
 
 use crate::traits::{Failed, Source};
 use blocks_core::{Bytes, Memory};
@@ -42,11 +41,20 @@ impl From<Failed> for InputFault {
     }
 }
 
-/// Reads a source to its end, or to one byte past the limit.
+/// Reads a source to its end, or to one byte past the limit, and takes no byte behind that.
 pub fn read_input<S: Source>(alloc: Global, source: &mut S) -> Result<Bytes, InputFault>
+    // What is read.
     ensures bytes { IfOk result (λ bytes. IfSome (S.left source.old) (λ left. bytes ≡ take (input_limit + 1) left)) }
     ensures bound { IfOk result (λ bytes. length bytes ≤ input_limit + 1) }
     ensures end { IfOk result (λ bytes. length bytes ≤ input_limit → IsAtEnd (S.left source.new)) }
+
+    // What is taken: what is read stood before what is left; and no more than so many bytes, also where memory runs out.
+    // What a call takes that fails is the source's own matter.
+    ensures taken { IsErrOf result InputFault.Memory → LosesAtMost (input_limit + 1) (S.left source.old) (S.left source.new) }
+    ensures consumed { IfOk result (Consumes (S.left source.old) (S.left source.new)) }
+    ensures rest { OnOk result (IfSome (S.left source.old) (λ left. S.left source.new ≡ Some (drop (input_limit + 1) left))) }
+
+    // A failed read is answered only where the source counted one.
     ensures never_falls { S.faults source.old ≤ S.faults source.new }
     ensures failed { IsErrOf result InputFault.Failed → HasRisen (S.faults source.old) (S.faults source.new) }
 {

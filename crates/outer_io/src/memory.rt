@@ -1,21 +1,31 @@
-ghost use Rattle.std.specs.Prelude.{◌≡◌, ◌≤◌, ◌<◌, ◌+◌, ◌-◌, ◌^◌, ◌++◌, [], drop, take, min, length, Some, IfOk, OnErr};
-ghost use Rattle.outer_io.specs.Outside.{Filling};
+ghost use Rattle.std.specs.Prelude.{◌≡◌, ◌≤◌, ◌<◌, ◌↔◌, ◌++◌, [], drop, take, min, length, Some, IfOk, OnErr, IsOk, IsErr};
+ghost use Rattle.outer_io.specs.Outside.{Gives, Puts, MeetsFullRoom, failed};
 
 use crate::traits::{Failed, Sink, Source};
 use blocks_core::Memory;
 use std::alloc::Global;
 use std::marker::Model;
 
-/// A source over bytes in memory. It never fails.
+/// A source over bytes in memory, seen as the bytes that are left. It never fails.
 #[derive(Drop)]
 pub struct MemorySource {
     bytes: Vec<u8>,
     taken: usize,
 }
 
+impl Model for MemorySource {
+    ghost use Rattle.std.specs.Prelude.{◌≤◌, ℕ, List, drop, length};
+
+    ghost Value = { List ℕ };
+
+    ghost view = { λ s. drop s.taken s.bytes.items };
+
+    ghost invariant = { λ s. s.taken ≤ length s.bytes.items };
+}
+
 impl MemorySource {
     pub fn new(bytes: Vec<u8>) -> MemorySource
-        ensures { ⟦<MemorySource as Source>⟧.left result ≡ Some bytes.items }
+        ensures { result ≡ bytes.items }
     {
         MemorySource { bytes, taken: 0 }
     }
@@ -24,12 +34,12 @@ impl MemorySource {
 impl Source for MemorySource {
     ghost faults = { λ s. 0 };
 
-    ghost left = { λ s. Some (drop s.taken s.bytes.items) };
+    ghost left = { λ s. Some s };
 
-    fn read(&mut self, into: &mut [u8]) -> Result<usize, Failed> {
-        if self.taken >= self.bytes.len() {
-            return Ok(0);
-        }
+    fn read(&mut self, into: &mut [u8]) -> Result<usize, Failed>
+        ensures never_fails { IsOk result }
+        ensures gives { IfOk result (λ count. Gives count self.old self.new into.old into.new) }
+    {
         let count = copy_front(&self.bytes[self.taken..], into);
         self.taken += count;
         Ok(count)
@@ -39,7 +49,7 @@ impl Source for MemorySource {
 /// Copies as many bytes as both have room for, and says how many.
 fn copy_front(from: &[u8], into: &mut [u8]) -> usize
     ensures count { result ≡ min (length from.now) (length into.old) }
-    ensures bytes { take result into.new ≡ take result from.now }
+    ensures bytes { into.new ≡ take result from.now ++ drop result into.old }
 {
     let count = from.len().min(into.len());
     into[..count].copy_from_slice(&from[..count]);
@@ -84,22 +94,13 @@ impl MemorySink {
         self.kept.as_slice()
     }
 
-    /// Takes as many bytes of a piece as there is room for, without taking memory.
-    pub fn put(&mut self, piece: &[u8]) -> Result<usize, Failed>
-        ensures count { IfOk result (λ count. count ≡ min (length piece.now) (self.old.room - length self.old.bytes)) }
-        ensures goes_on { IfOk result (λ count. 0 < length piece.now → 0 < count) }
-        ensures appends { IfOk result (λ count. self.new ≡ record self.old { bytes = self.old.bytes ++ take count piece.now }) }
-        ensures full { OnErr result ((0 < length piece.now) × (length self.old.bytes ≡ self.old.room)) }
+    /// Counts a failure.
+    pub(crate) fn fail(&mut self) -> Failed
+        ensures counts { self.new ≡ failed self.old }
         ensures never_falls { self.old.faults ≤ self.new.faults }
-        ensures counted { OnErr result (self.new ≡ record self.old { faults = min (self.old.faults + 1) (2 ^ 64 - 1) }) }
     {
-        let count = piece.len().min(self.limit - self.kept.len());
-        if count == 0 && !piece.is_empty() {
-            self.failures = self.failures.saturating_add(1);
-            return Err(Failed);
-        }
-        self.kept.extend_from_slice(&piece[..count]).unwrap();
-        Ok(count)
+        self.failures = self.failures.saturating_add(1);
+        Failed
     }
 }
 
@@ -108,7 +109,19 @@ impl Sink for MemorySink {
 
     ghost written = { λ s. Some s.bytes };
 
-    fn write(&mut self, piece: &[u8]) -> Result<usize, Failed> {
-        self.put(piece)
+    /// Takes as many bytes of a piece as there is room for, without taking memory.
+    fn write(&mut self, piece: &[u8]) -> Result<usize, Failed>
+        ensures never_falls { self.old.faults ≤ self.new.faults }
+        ensures fails { IsErr result ↔ MeetsFullRoom self.old piece.now }
+        ensures failed { OnErr result (self.new ≡ failed self.old) }
+        ensures goes_on { IfOk result (λ count. 0 < length piece.now → 0 < count) }
+        ensures puts { IfOk result (λ count. Puts count self.old self.new piece.now) }
+    {
+        let count = piece.len().min(self.limit - self.kept.len());
+        if count == 0 && !piece.is_empty() {
+            return Err(self.fail());
+        }
+        self.kept.extend_from_slice(&piece[..count]).unwrap();
+        Ok(count)
     }
 }

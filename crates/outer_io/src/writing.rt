@@ -1,4 +1,4 @@
-ghost use Rattle.std.specs.Prelude.{OnOk, OnErr};
+ghost use Rattle.std.specs.Prelude.{◌≤◌, OnOk, OnErr};
 ghost use Rattle.std.specs.Io.KnownBytes.{Appends};
 ghost use Rattle.outer_io.specs.Outside.{HasRisen, AppendsPrefix};
 
@@ -8,6 +8,7 @@ use crate::traits::{Failed, Sink};
 pub fn write_all<K: Sink>(sink: &mut K, bytes: &[u8]) -> Result<(), Failed>
     ensures ok { OnOk result (Appends (K.written sink.old) (K.written sink.new) bytes.now) }
     ensures prefix { OnErr result (AppendsPrefix (K.written sink.old) (K.written sink.new) bytes.now) }
+    ensures never_falls { K.faults sink.old ≤ K.faults sink.new }
     ensures failed { OnErr result (HasRisen (K.faults sink.old) (K.faults sink.new)) }
 {
     let mut done = 0;
