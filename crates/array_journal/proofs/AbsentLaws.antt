@@ -17,7 +17,7 @@ use Rattle.array_journal.specs.declared.task.Kind.TheVariants.{Rebuild}
 use Rattle.array_journal.specs.declared.task.Task.{Task}
 use Rattle.array_journal.specs.Entries.{name_of, same_at, entry_at, some_at, count_before, stamps_below}
 use Rattle.array_journal.specs.Commands.{opens_command, ends_command, task_given, task_of, first_task}
-use Rattle.array_journal.specs.Acts.{Act, Puts, has_act, is_third_party, is_act}
+use Rattle.array_journal.specs.Acts.{Act, Puts, has_act, is_act}
 use Rattle.array_journal.specs.Lives.{is_note_of, is_swap_of, is_gone, life_of, swap_count, is_unfitted, is_rebuild, rebuilds, closes_done, has_rebuilt, puts_rebuilt, opens_rebuilt, is_loss, absent_in, is_absent, missing_in, is_missing}
 use Rattle.array_journal.specs.Decision.{Opens, Refuses, want_of, decision}
 use Rattle.array_journal.specs.May.{MayAct, MayBook, MayOpen, MayClose, IsTask}
@@ -490,7 +490,7 @@ rebuilt-put s i stripe c whole g h =
     let at : t.0.target ≡ i = t.1.1.at_target in
     let below : i < s.geometry.targets = subst (λ (j : ℕ). j < s.geometry.targets) at sound.target in
     done-puts s i c t.0 whole g parts.1 t.1.0
-    (has-there s Puts t.0 Rebuild (is_third_party s.mode) i t.1.1.of_kind refl below (eq-eqb i t.0.target (sym at)))
+    (has-there s Puts t.0 Rebuild s.mode i t.1.1.of_kind refl below (eq-eqb i t.0.target (sym at)))
 
 -- the openings and the puts of the rebuilds that are done come to one life
 put_life-same : (s : Setting) (i stripe : ℕ) (whole : List Entry) → Grows s whole → put_life_in whole i stripe whole ≡ rebuilt_in whole i stripe whole

@@ -2,6 +2,7 @@
 use Rattle.std.specs.Prelude.{◌≡◌, ◌==◌, ◌&&◌, ◌||◌, ◌<◌, ◌≤◌, nat_lt, ℕ, suc, ◌+◌, Bool, true, false, List, [], ◌∷◌, Some}
 use Rattle.std.proofs.Common.{refl, ap, sym, ◌∙◌, arith, subst}
 use Rattle.std.proofs.lemmas.Bool.{eq-eqb, eqb-true, lt-ltb, and_from, and_right, or_left, or_right, and_parts, both_ways}
+use Rattle.stripe_layout.specs.declared.mode.Mode.{Mode}
 use Rattle.sbc_cdbs.specs.declared.descriptor.Cdb.{Cdb}
 use Rattle.sbc_cdbs.specs.Cdbs.{Spells, cdb_bytes}
 use Rattle.array_journal.specs.declared.at.At.{At}
@@ -12,7 +13,7 @@ use Rattle.array_journal.specs.declared.setting.Setting.{Setting}
 use Rattle.array_journal.specs.declared.task.Kind.{Kind}
 use Rattle.array_journal.specs.declared.task.Task.{Task}
 use Rattle.array_journal.specs.Entries.{name_of, at_lt, entry_at, some_at}
-use Rattle.array_journal.specs.Acts.{Act, Fetches, Puts, Diffs, Takes, Folds, Holds, acts_at, has_act, is_third_party, task_bytes, cdb_of, is_act}
+use Rattle.array_journal.specs.Acts.{Act, Fetches, Puts, Diffs, Takes, Folds, Holds, acts_at, has_act, task_bytes, cdb_of, is_act}
 use Rattle.array_journal.specs.May.{passes, Names, MayAct, MayAt, MayTarget, is_own_act, is_named, AllNamed}
 use Rattle.array_journal.specs.Run.{ComesLater}
 use Rattle.array_journal.specs.Calm.{IsCalmEvent}
@@ -61,33 +62,33 @@ pub passes-at : (test : Event → Bool) (name : At) (past : List Entry) (event :
 passes-at test name past event e h = ap (passes test) e ∙ h
 
 -- which acts a task has is a matter of its kind
-pub has-by_kind : (s : Setting) (act : Act) (task : Task) (kind : Kind) (third : Bool) (i : ℕ) → task.kind ≡ kind → is_third_party s.mode ≡ third →
-    has_act s act task i ≡ (nat_lt i s.geometry.targets && acts_at third act kind task i)
-has-by_kind s act task kind third i e m =
-    ap (λ (k : Kind). nat_lt i s.geometry.targets && acts_at (is_third_party s.mode) act k task i) e
-    ∙ ap (λ (b : Bool). nat_lt i s.geometry.targets && acts_at b act kind task i) m
+pub has-by_kind : (s : Setting) (act : Act) (task : Task) (kind : Kind) (mode : Mode) (i : ℕ) → task.kind ≡ kind → s.mode ≡ mode →
+    has_act s act task i ≡ (nat_lt i s.geometry.targets && acts_at mode act kind task i)
+has-by_kind s act task kind mode i e m =
+    ap (λ (k : Kind). nat_lt i s.geometry.targets && acts_at s.mode act k task i) e
+    ∙ ap (λ (x : Mode). nat_lt i s.geometry.targets && acts_at x act kind task i) m
 
 -- an act that the kind has at one target
-pub has-there : (s : Setting) (act : Act) (task : Task) (kind : Kind) (third : Bool) (i : ℕ) → task.kind ≡ kind → is_third_party s.mode ≡ third →
-    i < s.geometry.targets → acts_at third act kind task i ≡ true → has_act s act task i ≡ true
-has-there s act task kind third i e m h k =
-    has-by_kind s act task kind third i e m ∙ and_from (nat_lt i s.geometry.targets) (acts_at third act kind task i) (lt-ltb i s.geometry.targets h) k
+pub has-there : (s : Setting) (act : Act) (task : Task) (kind : Kind) (mode : Mode) (i : ℕ) → task.kind ≡ kind → s.mode ≡ mode →
+    i < s.geometry.targets → acts_at mode act kind task i ≡ true → has_act s act task i ≡ true
+has-there s act task kind mode i e m h k =
+    has-by_kind s act task kind mode i e m ∙ and_from (nat_lt i s.geometry.targets) (acts_at mode act kind task i) (lt-ltb i s.geometry.targets h) k
 
 -- an act that the kind doesn't have needs no name
-pub all_named-none : (s : Setting) (past : List Entry) (c : ℕ) (task : Task) (act : Act) (names : List At) (kind : Kind) (third : Bool) →
-    task.kind ≡ kind → is_third_party s.mode ≡ third → ((i : ℕ) → acts_at third act kind task i ≡ false) → AllNamed s past c task act names
-all_named-none s past c task act names kind third e m never i h =
+pub all_named-none : (s : Setting) (past : List Entry) (c : ℕ) (task : Task) (act : Act) (names : List At) (kind : Kind) (mode : Mode) →
+    task.kind ≡ kind → s.mode ≡ mode → ((i : ℕ) → acts_at mode act kind task i ≡ false) → AllNamed s past c task act names
+all_named-none s past c task act names kind mode e m never i h =
     absurd (both_ways (has_act s act task i)
-    (has-by_kind s act task kind third i e m ∙ and_right (nat_lt i s.geometry.targets) (acts_at third act kind task i) (never i)) h)
+    (has-by_kind s act task kind mode i e m ∙ and_right (nat_lt i s.geometry.targets) (acts_at mode act kind task i) (never i)) h)
 
 -- an act that the kind has at one target is named if it is there
-pub all_named-one : (s : Setting) (past : List Entry) (c : ℕ) (task : Task) (act : Act) (names : List At) (kind : Kind) (third : Bool) (target : ℕ) →
-    task.kind ≡ kind → is_third_party s.mode ≡ third → ((i : ℕ) → acts_at third act kind task i ≡ (i == target)) →
+pub all_named-one : (s : Setting) (past : List Entry) (c : ℕ) (task : Task) (act : Act) (names : List At) (kind : Kind) (mode : Mode) (target : ℕ) →
+    task.kind ≡ kind → s.mode ≡ mode → ((i : ℕ) → acts_at mode act kind task i ≡ (i == target)) →
     is_named past c act target names ≡ true → AllNamed s past c task act names
-all_named-one s past c task act names kind third target e m only named i h =
+all_named-one s past c task act names kind mode target e m only named i h =
     let both : (nat_lt i s.geometry.targets ≡ true) × ((i == target) ≡ true) =
     and_parts (nat_lt i s.geometry.targets) (i == target)
-    (sym (has-by_kind s act task kind third i e m ∙ ap (λ b. nat_lt i s.geometry.targets && b) (only i)) ∙ h) in
+    (sym (has-by_kind s act task kind mode i e m ∙ ap (λ b. nat_lt i s.geometry.targets && b) (only i)) ∙ h) in
     subst (λ (k : ℕ). is_named past c act k names ≡ true) (sym (eqb-true i target both.1)) named
 
 -- the first name is of this act, or one of the others is

@@ -63,14 +63,14 @@ lt-other a b h = elim (cases_Bool (at_lt b a)) [
 ]
 
 -- all older names are smaller
-abbrev AllSmaller : At → List Entry → Type 0
+abbrev pub AllSmaller : At → List Entry → Type 0
 AllSmaller name past = AllByRecursion (λ (x : Entry). at_lt (name_of x) name ≡ true) past
 
-smaller-up : (a b : At) (past : List Entry) → at_lt a b ≡ true → AllSmaller a past → AllSmaller b past
+pub smaller-up : (a b : At) (past : List Entry) → at_lt a b ≡ true → AllSmaller a past → AllSmaller b past
 smaller-up a b [] h p = tt
 smaller-up a b (x ∷ past) h p = (lt-trans (name_of x) a b p.0 h, smaller-up a b past h p.1)
 
-rises-smaller : (e : Entry) (past : List Entry) → Rises (e ∷ past) → AllSmaller (name_of e) past
+pub rises-smaller : (e : Entry) (past : List Entry) → Rises (e ∷ past) → AllSmaller (name_of e) past
 rises-smaller e [] r = tt
 rises-smaller e (x ∷ past) r = (r.0, smaller-up (name_of x) (name_of e) past r.0 (rises-smaller x past r.1))
 

@@ -28,7 +28,7 @@ stamps_below-calm lock stamp t c (e ∷ past) h p =
 -- no calm event is an act or an end of the next command
 pub calm-no_fetches : (c : ℕ) (e : Event) → IsCalmEvent c e → is_act Fetches c e ≡ false
 calm-no_fetches c (Fetch command opened cdb row bytes) p = ne_eqb command c (below_other command c p)
-calm-no_fetches c (Diff command opened cdb row bytes sent dropped) p = refl
+calm-no_fetches c (Diff command opened cdb row bytes sent dropped back) p = refl
 calm-no_fetches c (Take command opened cdb row bytes) p = refl
 calm-no_fetches c (Fold command opened cdb row bytes names) p = refl
 calm-no_fetches c (Open command task) p = refl
@@ -37,7 +37,7 @@ calm-no_fetches c _ p = absurd p
 
 pub calm-no_diffs : (c : ℕ) (e : Event) → IsCalmEvent c e → is_act Diffs c e ≡ false
 calm-no_diffs c (Fetch command opened cdb row bytes) p = refl
-calm-no_diffs c (Diff command opened cdb row bytes sent dropped) p = ne_eqb command c (below_other command c p.0)
+calm-no_diffs c (Diff command opened cdb row bytes sent dropped back) p = ne_eqb command c (below_other command c p.0)
 calm-no_diffs c (Take command opened cdb row bytes) p = refl
 calm-no_diffs c (Fold command opened cdb row bytes names) p = refl
 calm-no_diffs c (Open command task) p = refl
@@ -46,7 +46,7 @@ calm-no_diffs c _ p = absurd p
 
 pub calm-no_takes : (c : ℕ) (e : Event) → IsCalmEvent c e → is_act Takes c e ≡ false
 calm-no_takes c (Fetch command opened cdb row bytes) p = refl
-calm-no_takes c (Diff command opened cdb row bytes sent dropped) p = refl
+calm-no_takes c (Diff command opened cdb row bytes sent dropped back) p = refl
 calm-no_takes c (Take command opened cdb row bytes) p = ne_eqb command c (below_other command c p)
 calm-no_takes c (Fold command opened cdb row bytes names) p = refl
 calm-no_takes c (Open command task) p = refl
@@ -55,7 +55,7 @@ calm-no_takes c _ p = absurd p
 
 pub calm-no_folds : (c : ℕ) (e : Event) → IsCalmEvent c e → is_act Folds c e ≡ false
 calm-no_folds c (Fetch command opened cdb row bytes) p = refl
-calm-no_folds c (Diff command opened cdb row bytes sent dropped) p = refl
+calm-no_folds c (Diff command opened cdb row bytes sent dropped back) p = refl
 calm-no_folds c (Take command opened cdb row bytes) p = refl
 calm-no_folds c (Fold command opened cdb row bytes names) p = ne_eqb command c (below_other command c p)
 calm-no_folds c (Open command task) p = refl
@@ -64,7 +64,7 @@ calm-no_folds c _ p = absurd p
 
 pub calm-no_end : (c : ℕ) (e : Event) → IsCalmEvent c e → ends_command c e ≡ false
 calm-no_end c (Fetch command opened cdb row bytes) p = refl
-calm-no_end c (Diff command opened cdb row bytes sent dropped) p = refl
+calm-no_end c (Diff command opened cdb row bytes sent dropped back) p = refl
 calm-no_end c (Take command opened cdb row bytes) p = refl
 calm-no_end c (Fold command opened cdb row bytes names) p = refl
 calm-no_end c (Open command task) p = refl

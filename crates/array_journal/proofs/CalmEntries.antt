@@ -23,7 +23,7 @@ AllCalm t c past = AllByRecursion (IsCalmEntry t c) past
 -- more commands and larger stamps allow as much
 pub calm_event-more : (c d : ℕ) (e : Event) → c ≤ d → IsCalmEvent c e → IsCalmEvent d e
 calm_event-more c d (Fetch command opened cdb row bytes) h p = omega arith
-calm_event-more c d (Diff command opened cdb row bytes sent dropped) h p = (omega (arith, p.0), p.1)
+calm_event-more c d (Diff command opened cdb row bytes sent dropped back) h p = (omega (arith, p.0), p.1)
 calm_event-more c d (Take command opened cdb row bytes) h p = omega arith
 calm_event-more c d (Fold command opened cdb row bytes names) h p = omega arith
 calm_event-more c d (Open command task) h p = omega arith
@@ -44,7 +44,7 @@ some_at-calm lock test t c (e ∷ past) never p =
 
 calm-no_swapped : (opened : At) (c : ℕ) (e : Event) → IsCalmEvent c e → swapped_since opened e ≡ false
 calm-no_swapped opened c (Fetch command o cdb row bytes) p = refl
-calm-no_swapped opened c (Diff command o cdb row bytes sent dropped) p = refl
+calm-no_swapped opened c (Diff command o cdb row bytes sent dropped back) p = refl
 calm-no_swapped opened c (Take command o cdb row bytes) p = refl
 calm-no_swapped opened c (Fold command o cdb row bytes names) p = refl
 calm-no_swapped opened c (Open command task) p = refl
@@ -53,7 +53,7 @@ calm-no_swapped opened c _ p = absurd p
 
 calm-no_note : (i c : ℕ) (e : Event) → IsCalmEvent c e → is_note_of i e ≡ false
 calm-no_note i c (Fetch command opened cdb row bytes) p = refl
-calm-no_note i c (Diff command opened cdb row bytes sent dropped) p = refl
+calm-no_note i c (Diff command opened cdb row bytes sent dropped back) p = refl
 calm-no_note i c (Take command opened cdb row bytes) p = refl
 calm-no_note i c (Fold command opened cdb row bytes names) p = refl
 calm-no_note i c (Open command task) p = refl
@@ -62,7 +62,7 @@ calm-no_note i c _ p = absurd p
 
 calm-no_shut : (d c : ℕ) (e : Event) → IsCalmEvent c e → shuts_command d e ≡ false
 calm-no_shut d c (Fetch command opened cdb row bytes) p = refl
-calm-no_shut d c (Diff command opened cdb row bytes sent dropped) p = refl
+calm-no_shut d c (Diff command opened cdb row bytes sent dropped back) p = refl
 calm-no_shut d c (Take command opened cdb row bytes) p = refl
 calm-no_shut d c (Fold command opened cdb row bytes names) p = refl
 calm-no_shut d c (Open command task) p = refl
@@ -71,7 +71,7 @@ calm-no_shut d c _ p = absurd p
 
 calm-same_loss : (at : At) (c : ℕ) (e : Event) (old : Option At) → IsCalmEvent c e → loss_after at e old ≡ old
 calm-same_loss at c (Fetch command opened cdb row bytes) old p = refl
-calm-same_loss at c (Diff command opened cdb row bytes sent dropped) old p = refl
+calm-same_loss at c (Diff command opened cdb row bytes sent dropped back) old p = refl
 calm-same_loss at c (Take command opened cdb row bytes) old p = refl
 calm-same_loss at c (Fold command opened cdb row bytes names) old p = refl
 calm-same_loss at c (Open command task) old p = refl

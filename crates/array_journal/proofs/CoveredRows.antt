@@ -7,7 +7,7 @@ use Rattle.array_journal.specs.Deltas.{covers}
 use Rattle.array_journal.proofs.LayoutLaws.{IsBeside}
 
 -- so many whole blocks cover their rows and no others
-blocks_in : (b count len : ℕ) → 1 ≤ b → len ≡ count * b → len / b ≡ count
+pub blocks_in : (b count len : ℕ) → 1 ≤ b → len ≡ count * b → len / b ≡ count
 blocks_in b count len h e = ap (λ n. n / b) whole ∙ div-mul-add count b 0 (omega arith)
   where
     whole : len ≡ count * b + 0

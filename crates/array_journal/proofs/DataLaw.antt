@@ -131,23 +131,23 @@ put-here s past stamp lock i c opened cdb row bytes names stripe r task set g ke
     ∙ sym (put-known_beside s past stamp lock i c opened cdb row bytes names stripe i r task set g here may m at below other (λ same own j h e. not-beside task r j beside h e)
     (puts-by s task i m.act.of_task))
 
-diff-here : (s : Setting) (past : List Entry) (stamp lock i c : ℕ) (opened : At) (cdb : Cdb) (row : ℕ) (bytes : List ℕ) (sent dropped : Bool) (stripe r : ℕ) (task : Task) →
-    IsSetting s → Grows s past → Kept s past → IsWrite s past c task lock (Diff c opened cdb row bytes sent dropped) →
-    MayDiff s past stamp i c opened cdb row bytes sent dropped task → IsRowOf s.geometry stripe r → i < s.geometry.targets → i ≢ parity_of s.geometry stripe →
+diff-here : (s : Setting) (past : List Entry) (stamp lock i c : ℕ) (opened : At) (cdb : Cdb) (row : ℕ) (bytes : List ℕ) (sent dropped back : Bool) (stripe r : ℕ) (task : Task) →
+    IsSetting s → Grows s past → Kept s past → IsWrite s past c task lock (Diff c opened cdb row bytes sent dropped back) →
+    MayDiff s past stamp i c opened cdb row bytes sent dropped back task → IsRowOf s.geometry stripe r → i < s.geometry.targets → i ≢ parity_of s.geometry stripe →
     There i stripe past → Falls task r →
-    block_at s.geometry.block (medium_after s (Diff c opened cdb row bytes sent dropped) (media s i past)) r
-    ≡ known_in s (sectors_with s past (Diff c opened cdb row bytes sent dropped)) stripe i r
-diff-here s past stamp lock i c opened cdb row bytes sent dropped stripe r task set g kept w m at below other there (Within j h e) =
-    ap (block_at s.geometry.block (medium_after s (Diff c opened cdb row bytes sent dropped) (media s i past))) e
+    block_at s.geometry.block (medium_after s (Diff c opened cdb row bytes sent dropped back) (media s i past)) r
+    ≡ known_in s (sectors_with s past (Diff c opened cdb row bytes sent dropped back)) stripe i r
+diff-here s past stamp lock i c opened cdb row bytes sent dropped back stripe r task set g kept w m at below other there (Within j h e) =
+    ap (block_at s.geometry.block (medium_after s (Diff c opened cdb row bytes sent dropped back) (media s i past))) e
     ∙ put-within s (media s i past) bytes task row j w.sound m.act.at_row m.act.whole (media-size s i past g) h
     ∙ ap (λ (l : List ℕ). block_at s.geometry.block l j) m.written
-    ∙ sym (known-written s past c task lock (Diff c opened cdb row bytes sent dropped) j set g w h)
-    ∙ sym (known-at s (sectors_with s past (Diff c opened cdb row bytes sent dropped)) stripe i r task.stripe task.target (task.row + j)
+    ∙ sym (known-written s past c task lock (Diff c opened cdb row bytes sent dropped back) j set g w h)
+    ∙ sym (known-at s (sectors_with s past (Diff c opened cdb row bytes sent dropped back)) stripe i r task.stripe task.target (task.row + j)
     (within-stripe s task stripe r j w.sound at h e) (differs-update s task i m.act.of_task).1 e)
-diff-here s past stamp lock i c opened cdb row bytes sent dropped stripe r task set g kept w m at below other there (Beside beside) =
+diff-here s past stamp lock i c opened cdb row bytes sent dropped back stripe r task set g kept w m at below other there (Beside beside) =
     put-beside s (media s i past) bytes task row r w.sound m.act.at_row m.act.whole (media-size s i past g) beside
     ∙ kept.data_there stripe i r at below other there
-    ∙ sym (known-beside s past c task lock (Diff c opened cdb row bytes sent dropped) stripe i r set g w at below other (λ same own j h e. not-beside task r j beside h e))
+    ∙ sym (known-beside s past c task lock (Diff c opened cdb row bytes sent dropped back) stripe i r set g w at below other (λ same own j h e. not-beside task r j beside h e))
 
 fold-here : (s : Setting) (past : List Entry) (stamp i c : ℕ) (opened : At) (cdb : Cdb) (row : ℕ) (bytes : List ℕ) (names : List At) (name : At) (stripe r : ℕ) (task : Task) →
     Grows s past → Kept s past → MayFold s past stamp i c opened cdb row bytes names task name → IsRowOf s.geometry stripe r → i < s.geometry.targets →
@@ -168,9 +168,9 @@ data-here : (s : Setting) (past : List Entry) (stamp lock i stripe r : ℕ) (eve
     block_at s.geometry.block (medium_after s event (media s i past)) r ≡ known_in s (sectors_with s past event) stripe i r
 data-here s past stamp lock i stripe r (Put command opened cdb row bytes names) set g kept here m at below other there =
     put-here s past stamp lock i command opened cdb row bytes names stripe r m.0 set g kept here m m.1 at below other there (row_falls m.0 r)
-data-here s past stamp lock i stripe r (Diff command opened cdb row bytes sent dropped) set g kept here m at below other there =
-    diff-here s past stamp lock i command opened cdb row bytes sent dropped stripe r m.0 set g kept
-    (diff-write s past stamp i lock command opened cdb row bytes sent dropped m.0 g m here m.1.act) m.1 at below other there (row_falls m.0 r)
+data-here s past stamp lock i stripe r (Diff command opened cdb row bytes sent dropped back) set g kept here m at below other there =
+    diff-here s past stamp lock i command opened cdb row bytes sent dropped back stripe r m.0 set g kept
+    (diff-write s past stamp i lock command opened cdb row bytes sent dropped back m.0 g m here m.1.act) m.1 at below other there (row_falls m.0 r)
 data-here s past stamp lock i stripe r (Fold command opened cdb row bytes names) set g kept here m at below other there =
     fold-here s past stamp i command opened cdb row bytes names m.1.0 stripe r m.0 g kept m.1.1 at below other there (row_falls m.0 r)
 data-here s past stamp lock i stripe r (Fresh call swap) set g kept here m at below other there =

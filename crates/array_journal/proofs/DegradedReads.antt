@@ -2,10 +2,11 @@
 use Rattle.std.specs.Prelude.{◌≡◌, ◌≢◌, ◌==◌, ◌&&◌, ◌||◌, ◌<◌, ◌⊎◌, nat_lt, not, map, ℕ, zero, suc, ◌+◌, ◌*◌, Bool, true, false, List, [], ◌∷◌, Option, Some, None, length, take, drop}
 use Rattle.std.specs.List.{AllByRecursion}
 use Rattle.std.proofs.Common.{refl, ap, sym, ◌∙◌, arith, subst, inl, inr}
-use Rattle.std.proofs.lemmas.Bool.{eq-eqb, eqb-true, cases_Bool, and_parts, and_left, and_right, or_cases, or_from, or_left, or_right, both_ways, false≢true, cond-true, cond-false, cond_both}
+use Rattle.std.proofs.lemmas.Bool.{and_from, eq-eqb, eqb-true, cases_Bool, and_parts, and_left, and_right, or_cases, or_from, or_left, or_right, both_ways, false≢true, cond-true, cond-false, cond_both}
 use Rattle.std.proofs.lemmas.List.{length-replicate, take_all}
 use Rattle.blocks_core.specs.Xor.{xor, xor_all}
 use Rattle.blocks_core.proofs.XorLaws.{length-xor}
+use Rattle.stripe_layout.specs.Modes.{target_gathers}
 use Rattle.stripe_layout.specs.Layout.{lba_at}
 use Rattle.sbc_cdbs.specs.declared.descriptor.Cdb.{Cdb}
 use Rattle.array_journal.specs.declared.at.At.{At}
@@ -19,7 +20,7 @@ use Rattle.array_journal.specs.declared.task.Task.{Task}
 use Rattle.array_journal.specs.Lists.{slice, block_at}
 use Rattle.array_journal.specs.Entries.{entry_at}
 use Rattle.array_journal.specs.Commands.{task_of}
-use Rattle.array_journal.specs.Acts.{Act, Fetches, Puts, Diffs, Takes, Folds, Holds, gatherer, acts_at, has_act, is_third_party, is_act, task_bytes}
+use Rattle.array_journal.specs.Acts.{Act, Fetches, Puts, Diffs, Takes, Folds, Holds, gatherer, acts_at, has_act, is_act, task_bytes}
 use Rattle.array_journal.specs.Host.{unit_at, task_lba}
 use Rattle.array_journal.specs.May.{MayAct, MayFetch, MayCloseWhole, EachOwn, NamesActs, is_own_act, is_named, passes, bytes_of, bytes_named, first_taken, answered, taken, closed_bytes, IsTask, IsTaskOfKind}
 use Rattle.array_journal.specs.Run.{IsSetting, Grows, sectors}
@@ -77,7 +78,7 @@ read-right s past stamp i c opened cdb row bytes task set g kept m k =
 
     at : i ≡ task.target
     at = eqb-true i task.target
-        (sym (ap (λ (x : Kind). acts_at (is_third_party s.mode) Fetches x task i) k) ∙ acts-there s Fetches task i m.act.of_task)
+        (sym (ap (λ (x : Kind). acts_at s.mode Fetches x task i) k) ∙ acts-there s Fetches task i m.act.of_task)
 
 -- of six tests the first, and the fourth
 or_first : (x y : Bool) → y ≡ false → (x || y) ≡ true → x ≡ true
@@ -97,14 +98,14 @@ six-fourth : (a b c d e f : Bool) → a ≡ false → b ≡ false → c ≡ fals
 six-fourth a b c d e f p q r t u h =
     or_second (a || b || c) d (or_from (a || b) c (or_from a b p q) r) (or_first (a || b || c || d) e t (or_first (a || b || c || d || e) f u h))
 
-lacks-act : (s : Setting) (act : Act) (task : Task) (kind : Kind) (third : Bool) (i : ℕ) → task.kind ≡ kind → is_third_party s.mode ≡ third → acts_at third act kind task i ≡ false →
+lacks-act : (s : Setting) (act : Act) (task : Task) (kind : Kind) (i : ℕ) → task.kind ≡ kind → acts_at s.mode act kind task i ≡ false →
     has_act s act task i ≡ false
-lacks-act s act task kind third i k t h =
-    and_right (nat_lt i s.geometry.targets) (acts_at (is_third_party s.mode) act task.kind task i)
-    (ap (λ (b : Bool). acts_at b act task.kind task i) t ∙ ap (λ (x : Kind). acts_at third act x task i) k ∙ h)
+lacks-act s act task kind i k h =
+    and_right (nat_lt i s.geometry.targets) (acts_at s.mode act task.kind task i)
+    (ap (λ (x : Kind). acts_at s.mode act x task i) k ∙ h)
 
 -- the acts of a degraded read that the controller gathers are fetches
-own-fetched : (s : Setting) (past : List Entry) (c : ℕ) (task : Task) (name : At) (lock : ℕ) → name.lock ≡ lock → task.kind ≡ DegradedRead → is_third_party s.mode ≡ false →
+own-fetched : (s : Setting) (past : List Entry) (c : ℕ) (task : Task) (name : At) (lock : ℕ) → name.lock ≡ lock → task.kind ≡ DegradedRead → target_gathers s.mode ≡ false →
     passes (is_own_act s c task lock) (entry_at name past) ≡ true → IsFetched s past c task name
 own-fetched s past c task name zero l k t h = absurd (never (passes-event (is_own_act s c task zero) (entry_at name past) h))
   where
@@ -118,11 +119,11 @@ own-fetched s past c task name (suc i) l k t h =
     (six-first (has_act s Fetches task i && is_act Fetches c found.0) (has_act s Puts task i && is_act Puts c found.0)
     (has_act s Diffs task i && is_act Diffs c found.0) (has_act s Takes task i && is_act Takes c found.0)
     (has_act s Folds task i && is_act Folds c found.0) (has_act s Holds task i && is_act Holds c found.0)
-    (and_left (has_act s Puts task i) (is_act Puts c found.0) (lacks-act s Puts task DegradedRead false i k t refl))
-    (and_left (has_act s Diffs task i) (is_act Diffs c found.0) (lacks-act s Diffs task DegradedRead false i k t refl))
-    (and_left (has_act s Takes task i) (is_act Takes c found.0) (lacks-act s Takes task DegradedRead false i k t refl))
-    (and_left (has_act s Folds task i) (is_act Folds c found.0) (lacks-act s Folds task DegradedRead false i k t refl))
-    (and_left (has_act s Holds task i) (is_act Holds c found.0) (lacks-act s Holds task DegradedRead false i k t refl))
+    (and_left (has_act s Puts task i) (is_act Puts c found.0) (lacks-act s Puts task DegradedRead i k refl))
+    (and_left (has_act s Diffs task i) (is_act Diffs c found.0) (lacks-act s Diffs task DegradedRead i k refl))
+    (and_left (has_act s Takes task i) (is_act Takes c found.0) (lacks-act s Takes task DegradedRead i k (and_left (target_gathers s.mode) (i == gatherer task) t)))
+    (and_left (has_act s Folds task i) (is_act Folds c found.0) (lacks-act s Folds task DegradedRead i k refl))
+    (and_left (has_act s Holds task i) (is_act Holds c found.0) (lacks-act s Holds task DegradedRead i k (and_left (target_gathers s.mode) (i == gatherer task) t)))
     found.1.1) in
     record {
       target = i;
@@ -131,7 +132,7 @@ own-fetched s past c task name (suc i) l k t h =
       stands = passes-said (is_act Fetches c) name past found.0 found.1.0 both.1;
     }
 
-all-fetched : (s : Setting) (past : List Entry) (stamp c : ℕ) (task : Task) (names : List At) → task.kind ≡ DegradedRead → is_third_party s.mode ≡ false →
+all-fetched : (s : Setting) (past : List Entry) (stamp c : ℕ) (task : Task) (names : List At) → task.kind ≡ DegradedRead → target_gathers s.mode ≡ false →
     EachOwn s past stamp c task names → AllByRecursion (IsFetched s past c task) names
 all-fetched s past stamp c task [] k t own = tt
 all-fetched s past stamp c task (name ∷ names) k t own =
@@ -176,7 +177,7 @@ fetched-of s past c j task (name ∷ names) kept alone h all = (
 
 -- what a degraded read answers where the controller gathers
 gathered-right : (s : Setting) (past : List Entry) (stamp c : ℕ) (task : Task) (names : List At) → IsSetting s → Grows s past → Kept s past → RunsAlone c task past →
-    task.kind ≡ DegradedRead → is_third_party s.mode ≡ false → NamesActs s past stamp c task names →
+    task.kind ≡ DegradedRead → target_gathers s.mode ≡ false → NamesActs s past stamp c task names →
     xor_all (task_bytes s task) (map (bytes_named past) names)
     ≡ slice (sectors s.geometry past) (task_lba s.geometry task * s.geometry.block) (length (xor_all (task_bytes s task) (map (bytes_named past) names)))
 gathered-right s past stamp c task names set g kept alone k t a =
@@ -219,7 +220,7 @@ taken-right s past c i name opened cdb row bytes task set g kept alone k lock st
         ∙ named-size s i c Takes task name past g lock (passes-said (is_act Takes c) name past (Take c opened cdb row bytes) stands (eq-eqb c c refl)) (inr refl) alone.its_task)
         (λ j h. ap (λ (o : Option Event). block_at s.geometry.block (held_bytes o) j) (sym hold.stands)
         ∙ kept.gathered c i j task hold.name alone hold.at_target
-        (passes-said (is_act Holds c) hold.name past (Hold c hold.opened hold.cdb hold.row bytes hold.kept hold.names) hold.stands (eq-eqb c c refl)) h)
+        (passes-said (is_act Holds c) hold.name past (Hold c hold.opened hold.cdb hold.row bytes hold.kept hold.names hold.back) hold.stands (eq-eqb c c refl)) h)
 
 -- a named take is its command's own
 own-take : (s : Setting) (past : List Entry) (c command : ℕ) (opened : At) (cdb : Cdb) (row : ℕ) (bytes : List ℕ) (task : Task) (name : At) (lock : ℕ) → name.lock ≡ lock →
@@ -260,7 +261,7 @@ first-right s past stamp c i task (name ∷ names) P own right h = choose (entry
 pub closed-right : (s : Setting) (past : List Entry) (stamp c : ℕ) (task : Task) (names : List At) (cause : Option At) (bytes : List ℕ) → IsSetting s → Grows s past →
     Kept s past → RunsAlone c task past → task.kind ≡ DegradedRead → MayCloseWhole s past stamp c task names cause bytes →
     bytes ≡ slice (sectors s.geometry past) (task_lba s.geometry task * s.geometry.block) (length bytes)
-closed-right s past stamp c task names cause bytes set g kept alone k m = by (cases_Bool (is_third_party s.mode))
+closed-right s past stamp c task names cause bytes set g kept alone k m = by (cases_Bool (target_gathers s.mode))
   where
     IsRight : List ℕ → Type 0
     IsRight l = l ≡ slice (sectors s.geometry past) (task_lba s.geometry task * s.geometry.block) (length l)
@@ -271,12 +272,13 @@ closed-right s past stamp c task names cause bytes set g kept alone k m = by (ca
     gatherer_below : gatherer task < s.geometry.targets
     gatherer_below = cond_both (task.target == 0) 1 0 (λ (n : ℕ). n < s.geometry.targets) (λ e. omega (arith, set.array.least_targets)) (λ e. omega (arith, set.array.least_targets))
 
-    by : (is_third_party s.mode ≡ true) ⊎ (is_third_party s.mode ≡ false) → IsRight bytes
+    by : (target_gathers s.mode ≡ true) ⊎ (target_gathers s.mode ≡ false) → IsRight bytes
     by (inl t) =
-        subst IsRight (sym (answer ∙ cond-true (is_third_party s.mode) (first_taken past names) _ t))
+        subst IsRight (sym (answer ∙ cond-true (target_gathers s.mode) (first_taken past names) _ t))
         (first-right s past stamp c (gatherer task) task names IsRight m.acts.only
         (λ name opened cdb row i l lock stands. taken-right s past c i name opened cdb row l task set g kept alone k lock stands)
-        (m.acts.takes (gatherer task) (has-there s Takes task DegradedRead true (gatherer task) k t gatherer_below (eq-eqb (gatherer task) (gatherer task) refl))))
+        (m.acts.takes (gatherer task) (has-there s Takes task DegradedRead s.mode (gatherer task) k refl gatherer_below
+        (and_from (target_gathers s.mode) (gatherer task == gatherer task) t (eq-eqb (gatherer task) (gatherer task) refl)))))
     by (inr t) =
-        subst IsRight (sym (answer ∙ cond-false (is_third_party s.mode) (first_taken past names) _ t))
+        subst IsRight (sym (answer ∙ cond-false (target_gathers s.mode) (first_taken past names) _ t))
         (gathered-right s past stamp c task names set g kept alone k t m.acts)

@@ -3,6 +3,7 @@
 use Rattle.std.specs.Prelude.{◌≡◌, ◌==◌, ◌&&◌, ◌<◌, ◌≤◌, ◌⊎◌, nat_lt, ℕ, zero, suc, ◌+◌, ◌-◌, ◌*◌, Bool, true, false, List, [], ◌∷◌, Some, if◌then◌else◌}
 use Rattle.std.proofs.Common.{refl, ap, sym, ◌∙◌, cond, arith, subst, inl, inr}
 use Rattle.std.proofs.lemmas.Bool.{eq-eqb, ne_eqb, eqb-true, cases_eq, cases_Bool, cases_lt, and_from, and_parts, and_left, and_right, both_ways, false≢true, cond-true, cond-false}
+use Rattle.stripe_layout.specs.declared.mode.Mode.{Mode}
 use Rattle.array_journal.specs.declared.at.At.{At}
 use Rattle.array_journal.specs.declared.entry.Entry.{Entry}
 use Rattle.array_journal.specs.declared.event.Event.{Event}
@@ -13,7 +14,7 @@ use Rattle.array_journal.specs.declared.task.Kind.TheVariants.{Read, Update, Dat
 use Rattle.array_journal.specs.declared.task.Task.{Task}
 use Rattle.array_journal.specs.Entries.{name_of, same_at, entry_at, some_at}
 use Rattle.array_journal.specs.Commands.{task_of}
-use Rattle.array_journal.specs.Acts.{Act, Fetches, Puts, Diffs, Takes, Folds, Holds, acts_at, has_act, is_third_party, is_act}
+use Rattle.array_journal.specs.Acts.{Act, Fetches, Puts, Diffs, Takes, Folds, Holds, acts_at, has_act, is_act}
 use Rattle.array_journal.specs.Deltas.{covers, delta_of, delta_in, delta_at}
 use Rattle.array_journal.specs.May.{MayAt, MayBook, MayTarget}
 use Rattle.array_journal.specs.Run.{Grows}
@@ -48,10 +49,10 @@ act-lock s past stamp zero c act event m h = absurd (no_act act event m h)
     no_act : (x : Act) (found : Event) → MayBook s past stamp found → is_act x c found ≡ true → ⊥
     no_act Fetches (Fetch command opened cdb row bytes) q k = q
     no_act Puts (Put command opened cdb row bytes names) q k = q
-    no_act Diffs (Diff command opened cdb row bytes sent dropped) q k = q
+    no_act Diffs (Diff command opened cdb row bytes sent dropped back) q k = q
     no_act Takes (Take command opened cdb row bytes) q k = q
     no_act Folds (Fold command opened cdb row bytes names) q k = q
-    no_act Holds (Hold command opened cdb row bytes kept names) q k = q
+    no_act Holds (Hold command opened cdb row bytes kept names back) q k = q
     no_act Fetches _ q k = false≢true k
     no_act Puts _ q k = false≢true k
     no_act Diffs _ q k = false≢true k
@@ -64,32 +65,32 @@ act-lock s past stamp (suc i) c act event m h = (i, (next, m.1))
     next = omega arith
 
 -- a command that has a diff is an update, and has it at its target
-diffs-kind : (third : Bool) (kind : Kind) (task : Task) (i : ℕ) → acts_at third Diffs kind task i ≡ true → (kind ≡ Update) × (i ≡ task.target)
-diffs-kind third Update task i h = (refl, eqb-true i task.target h)
-diffs-kind third Read task i h = absurd (false≢true h)
-diffs-kind third DataOnly task i h = absurd (false≢true h)
-diffs-kind third DegradedRead task i h = absurd (false≢true h)
-diffs-kind third DegradedWrite task i h = absurd (false≢true h)
-diffs-kind third Rebuild task i h = absurd (false≢true h)
-diffs-kind third Resync task i h = absurd (false≢true h)
+diffs-kind : (mode : Mode) (kind : Kind) (task : Task) (i : ℕ) → acts_at mode Diffs kind task i ≡ true → (kind ≡ Update) × (i ≡ task.target)
+diffs-kind mode Update task i h = (refl, eqb-true i task.target h)
+diffs-kind mode Read task i h = absurd (false≢true h)
+diffs-kind mode DataOnly task i h = absurd (false≢true h)
+diffs-kind mode DegradedRead task i h = absurd (false≢true h)
+diffs-kind mode DegradedWrite task i h = absurd (false≢true h)
+diffs-kind mode Rebuild task i h = absurd (false≢true h)
+diffs-kind mode Resync task i h = absurd (false≢true h)
 
 pub differs-update : (s : Setting) (task : Task) (i : ℕ) → has_act s Diffs task i ≡ true → (task.kind ≡ Update) × (i ≡ task.target)
 differs-update s task i h =
-    diffs-kind (is_third_party s.mode) task.kind task i (and_parts (nat_lt i s.geometry.targets) (acts_at (is_third_party s.mode) Diffs task.kind task i) h).1
+    diffs-kind s.mode task.kind task i (and_parts (nat_lt i s.geometry.targets) (acts_at s.mode Diffs task.kind task i) h).1
 
 -- and one that has a fold is an update, and has it at parity
-folds-kind : (third : Bool) (kind : Kind) (task : Task) (i : ℕ) → acts_at third Folds kind task i ≡ true → (kind ≡ Update) × (i ≡ task.parity)
-folds-kind third Update task i h = (refl, eqb-true i task.parity h)
-folds-kind third Read task i h = absurd (false≢true h)
-folds-kind third DataOnly task i h = absurd (false≢true h)
-folds-kind third DegradedRead task i h = absurd (false≢true h)
-folds-kind third DegradedWrite task i h = absurd (false≢true h)
-folds-kind third Rebuild task i h = absurd (false≢true h)
-folds-kind third Resync task i h = absurd (false≢true h)
+folds-kind : (mode : Mode) (kind : Kind) (task : Task) (i : ℕ) → acts_at mode Folds kind task i ≡ true → (kind ≡ Update) × (i ≡ task.parity)
+folds-kind mode Update task i h = (refl, eqb-true i task.parity h)
+folds-kind mode Read task i h = absurd (false≢true h)
+folds-kind mode DataOnly task i h = absurd (false≢true h)
+folds-kind mode DegradedRead task i h = absurd (false≢true h)
+folds-kind mode DegradedWrite task i h = absurd (false≢true h)
+folds-kind mode Rebuild task i h = absurd (false≢true h)
+folds-kind mode Resync task i h = absurd (false≢true h)
 
 pub folds-update : (s : Setting) (task : Task) (i : ℕ) → has_act s Folds task i ≡ true → (task.kind ≡ Update) × (i ≡ task.parity)
 folds-update s task i h =
-    folds-kind (is_third_party s.mode) task.kind task i (and_parts (nat_lt i s.geometry.targets) (acts_at (is_third_party s.mode) Folds task.kind task i) h).1
+    folds-kind s.mode task.kind task i (and_parts (nat_lt i s.geometry.targets) (acts_at s.mode Folds task.kind task i) h).1
 
 -- the task of a command with a diff at target i
 pub record IsDiffed (s : Setting) (i c : ℕ) (past : List Entry) (task : Task) : Type 0 where
@@ -114,7 +115,7 @@ diff-once s i c e past g h here = elim (cases_Bool (is_act Diffs c e.event)) [
 
 -- what a diff changes
 abbrev pub diff_delta : Setting → ℕ → List Entry → Event → List ℕ
-diff_delta s i past (Diff command opened cdb row bytes sent dropped) = delta_of s i past row bytes
+diff_delta s i past (Diff command opened cdb row bytes sent dropped back) = delta_of s i past row bytes
 diff_delta s i past _ = []
 
 -- the delta of a command whose diff is made at target i
@@ -152,7 +153,7 @@ delta_at-made s i c name (e ∷ past) event g h stands acts_so =
     some_one x y k = cc
 
     found : (x : Event) → is_act Diffs c x ≡ true → delta_in s i past x ≡ Some (diff_delta s i past x)
-    found (Diff command opened cdb row bytes sent dropped) k = refl
+    found (Diff command opened cdb row bytes sent dropped back) k = refl
     found _ k = absurd (false≢true k)
 
     choose : (b : Bool) → same_at name (name_of e) ≡ b →

@@ -1,8 +1,10 @@
 -- What bars each act of a command that has ended: the act was made; or the command is shut there; or the disk that
 -- it was opened for is lost; or what it would take was discarded. A bar stays, so no act comes after the end.
-use Rattle.std.specs.Prelude.{◌≡◌, ◌==◌, ◌&&◌, ◌||◌, ◌<◌, ◌≤◌, ◌⊎◌, nat_lt, not, ℕ, zero, suc, ◌+◌, Bool, true, false, List, [], ◌∷◌, Option, Some, None, filter, length}
+use Rattle.std.specs.Prelude.{◌≡◌, ◌==◌, ◌&&◌, ◌||◌, ◌<◌, ◌≤◌, ◌⊎◌, nat_lt, ℕ, zero, suc, ◌+◌, Bool, true, false, List, [], ◌∷◌, Option, Some, None, filter, length}
 use Rattle.std.proofs.Common.{refl, ap, sym, ◌∙◌, cond, arith, subst, inl, inr}
-use Rattle.std.proofs.lemmas.Bool.{eq-eqb, eqb-true, ltb-true, cases_eq, cases_Bool, cases_lt, le-leb, and_parts, or_right, or_cases, not-true, both_ways, false≢true}
+use Rattle.std.proofs.lemmas.Bool.{eq-eqb, eqb-true, ltb-true, cases_eq, cases_Bool, cases_lt, le-leb, and_parts, or_right, or_cases, both_ways, false≢true}
+use Rattle.stripe_layout.specs.Modes.{takes_delta, sends_delta}
+use Rattle.stripe_layout.proofs.ModeLaws.{taken-unsent}
 use Rattle.sbc_cdbs.specs.declared.descriptor.Cdb.{Cdb}
 use Rattle.array_journal.specs.declared.at.At.{At}
 use Rattle.array_journal.specs.declared.entry.Entry.{Entry}
@@ -14,7 +16,7 @@ use Rattle.array_journal.specs.declared.task.Task.{Task}
 use Rattle.array_journal.specs.Lists.{numbers}
 use Rattle.array_journal.specs.Entries.{entry_at, some_at, count_before, stamps_below}
 use Rattle.array_journal.specs.Commands.{opens_command, ends_command, is_open, task_of}
-use Rattle.array_journal.specs.Acts.{Act, Fetches, Puts, Diffs, Takes, Folds, Holds, acts_at, has_act, is_target, is_third_party, is_act, shuts_command}
+use Rattle.array_journal.specs.Acts.{Act, Fetches, Puts, Diffs, Takes, Folds, Holds, acts_at, has_act, is_target, is_act, shuts_command}
 use Rattle.array_journal.specs.Media.{held, rows_held, drops}
 use Rattle.array_journal.specs.Lives.{life_of, swap_count, is_swap_of, is_fresh}
 use Rattle.array_journal.specs.May.{MayAct, MayTarget, MayBook, passes, Names, NamesAt, NamesActs, AllNamed, is_named, swapped_since, freshes_after, shuts_idle, MayClose, MayCloseWhole, MayCloseUnfolded, MayGiveUp, MaySpoil, is_dropped_diff, discards}
@@ -187,27 +189,27 @@ some_at-weaker k test weaker (e ∷ past) f h = elim (some_at-cases k test e pas
   | inr older ↦ some_at-more k weaker e past (some_at-weaker k test weaker past f older)
 ]
 
--- a delta is dropped in third-party mode alone
+-- a delta is dropped only where targets send theirs
 dropped-sent : (s : Setting) (past : List Entry) (stamp i c : ℕ) (event : Event) → MayTarget s past stamp i event → is_dropped_diff c event ≡ true →
-    is_third_party s.mode ≡ true
-dropped-sent s past stamp i c (Diff command opened cdb row bytes sent true) m h =
+    sends_delta s.mode ≡ true
+dropped-sent s past stamp i c (Diff command opened cdb row bytes sent true back) m h =
     sym m.1.sent_by_mode ∙ (and_parts sent (nat_lt 0 (drops i past)) (sym m.1.dropped_when_due)).0
-dropped-sent s past stamp i c (Diff command opened cdb row bytes sent false) m h = absurd (false≢true h)
+dropped-sent s past stamp i c (Diff command opened cdb row bytes sent false back) m h = absurd (false≢true h)
 dropped-sent s past stamp i c _ m h = absurd (false≢true h)
 
-dropped-third : (s : Setting) (i c : ℕ) (past : List Entry) → Grows s past → some_at (i + 1) (is_dropped_diff c) past ≡ true → is_third_party s.mode ≡ true
-dropped-third s i c [] g h = absurd (false≢true h)
-dropped-third s i c (e ∷ past) g h = elim (some_at-cases (i + 1) (is_dropped_diff c) e past h) [
+dropped-sends : (s : Setting) (i c : ℕ) (past : List Entry) → Grows s past → some_at (i + 1) (is_dropped_diff c) past ≡ true → sends_delta s.mode ≡ true
+dropped-sends s i c [] g h = absurd (false≢true h)
+dropped-sends s i c (e ∷ past) g h = elim (some_at-cases (i + 1) (is_dropped_diff c) e past h) [
   | inl here ↦ dropped-sent s past e.stamp i c e.event (may-here s past e.stamp e.lock i e.event here.0 g.0.1.1) here.1
-  | inr older ↦ dropped-third s i c past g.1 older
+  | inr older ↦ dropped-sends s i c past g.1 older
 ]
 
 -- which acts an update has
 update-act : (s : Setting) (act : Act) (task : Task) (i : ℕ) → task.kind ≡ Update → has_act s act task i ≡ true →
-    acts_at (is_third_party s.mode) act Update task i ≡ true
+    acts_at s.mode act Update task i ≡ true
 update-act s act task i k h =
-    (and_parts (nat_lt i s.geometry.targets) (acts_at (is_third_party s.mode) act Update task i)
-    (sym (has-by_kind s act task Update (is_third_party s.mode) i k refl) ∙ h)).1
+    (and_parts (nat_lt i s.geometry.targets) (acts_at s.mode act Update task i)
+    (sym (has-by_kind s act task Update s.mode i k refl) ∙ h)).1
 
 -- the end of a command bars each of its acts
 whole-bars : (s : Setting) (past : List Entry) (stamp c i w : ℕ) (act : Act) (task : Task) (names : List At) (cause : Option At) (bytes : List ℕ) →
@@ -230,8 +232,8 @@ unfolded-bars s past stamp c i w Holds task names cause bytes m l h = made (name
 given_up-bars : (s : Setting) (past : List Entry) (stamp c i w : ℕ) (act : Act) (task : Task) (names : List At) (cause : At) (bytes : List ℕ) →
     MayGiveUp s past stamp c task names cause bytes → has_act s act task i ≡ true → Bar c i w act past
 given_up-bars s past stamp c i w act task names cause bytes m h =
-    let low : (nat_lt i s.geometry.targets ≡ true) × (acts_at (is_third_party s.mode) act task.kind task i ≡ true) =
-    and_parts (nat_lt i s.geometry.targets) (acts_at (is_third_party s.mode) act task.kind task i) h in
+    let low : (nat_lt i s.geometry.targets ≡ true) × (acts_at s.mode act task.kind task i ≡ true) =
+    and_parts (nat_lt i s.geometry.targets) (acts_at s.mode act task.kind task i) h in
     let below : i < s.geometry.targets = ltb-true i s.geometry.targets low.0 in
     is_shut (some_at-weaker (i + 1) (shuts_idle c) (shuts_command c) past (shut-idle c)
     (named-each past stamp i (shuts_idle c) (is_target s task) s.geometry.targets 0 names m.shut (omega arith) (omega arith) (target-of_act s act task i h)))
@@ -254,16 +256,16 @@ spoil-bars s past stamp c i w Folds diff loss shut task g m h =
     (some-named (i + 1) (shuts_idle c) shut past (m.at_parity ∙ ap (λ (j : ℕ). j + 1) (sym here)) m.shut_idle.0))
 spoil-bars s past stamp c i w Takes diff loss shut task g m h = lost m.lost
   where
-    parts : (not (is_third_party s.mode) ≡ true) × ((i == task.target) ≡ true)
-    parts = and_parts (not (is_third_party s.mode)) (i == task.target) (update-act s Takes task i m.update h)
+    parts : (takes_delta s.mode ≡ true) × ((i == task.target) ≡ true)
+    parts = and_parts (takes_delta s.mode) (i == task.target) (update-act s Takes task i m.update h)
 
     here : i ≡ task.target
     here = eqb-true i task.target parts.1
 
     lost : ((loss ≡ diff) × Names past stamp diff (is_dropped_diff c)) ⊎ ((loss.lock ≡ task.target + 1) × Names past stamp loss (discards c)) → Bar c i w Takes past
     lost (inl dropped) =
-        absurd (both_ways (is_third_party s.mode) (not-true (is_third_party s.mode) parts.0)
-        (dropped-third s task.target c past g (some-named (task.target + 1) (is_dropped_diff c) diff past m.at_target dropped.1.0)))
+        absurd (both_ways (sends_delta s.mode) (taken-unsent s.mode parts.0)
+        (dropped-sends s task.target c past g (some-named (task.target + 1) (is_dropped_diff c) diff past m.at_target dropped.1.0)))
     lost (inr discarded) = is_emptied refl (some-named (i + 1) (discards c) loss past (discarded.0 ∙ ap (λ (j : ℕ). j + 1) (sym here)) discarded.1.0)
 spoil-bars s past stamp c i w Fetches diff loss shut task g m h = absurd (false≢true (update-act s Fetches task i m.update h))
 spoil-bars s past stamp c i w Puts diff loss shut task g m h = absurd (false≢true (update-act s Puts task i m.update h))

@@ -14,7 +14,7 @@ use Rattle.array_journal.specs.declared.task.Kind.TheVariants.{Update}
 use Rattle.array_journal.specs.declared.task.Task.{Task}
 use Rattle.array_journal.specs.Entries.{some_at}
 use Rattle.array_journal.specs.Commands.{opens_command, ends_command, is_open, task_of}
-use Rattle.array_journal.specs.Acts.{Act, Puts, Diffs, Folds, is_third_party, is_target, is_act, shuts_command, changes_medium}
+use Rattle.array_journal.specs.Acts.{Act, Puts, Diffs, Folds, is_target, is_act, shuts_command, changes_medium}
 use Rattle.array_journal.specs.Lives.{closes_done, is_gone, is_missing, is_absent}
 use Rattle.array_journal.specs.Listed.{makes_parity, renews_parity, has_stripe, listed_after, listed_for, is_listed}
 use Rattle.array_journal.specs.Deltas.{has_acted}
@@ -109,7 +109,7 @@ close-folds : (s : Setting) (past : List Entry) (stamp c : ℕ) (task : Task) (n
 close-folds s past stamp c task names cause bytes set sound update m =
     acted-somewhere (task.parity + 1) c Folds past
     (named-made past c task.parity Folds names (m.folds task.parity
-    (has-there s Folds task Update (is_third_party s.mode) task.parity update refl
+    (has-there s Folds task Update s.mode task.parity update refl
     (subst (λ (n : ℕ). n < s.geometry.targets) (sym sound.parity) (parity_of-below s task.stripe set)) (eq-eqb task.parity task.parity refl))))
 
 ended-by_close : (s : Setting) (stripe c : ℕ) (e : Entry) (past : List Entry) (done : Bool) (names : List At) (cause : Option At) (bytes : List ℕ) (task : Task) →
@@ -129,7 +129,7 @@ ended-by_close s stripe c e past false names (Some cause) bytes task set g book 
     absurd (idle-unchanged s task.target c past g.1
     (named-each past e.stamp task.target (shuts_idle c) (is_target s task) s.geometry.targets 0 names m.shut (omega arith) (let h : task.target < s.geometry.targets = sound.target in omega arith)
     (target-of_act s Diffs task task.target
-    (has-there s Diffs task Update (is_third_party s.mode) task.target u.update refl sound.target (eq-eqb task.target task.target refl)))) u.differed)
+    (has-there s Diffs task Update s.mode task.target u.update refl sound.target (eq-eqb task.target task.target refl)))) u.differed)
 
 ended-by : (s : Setting) (stripe c : ℕ) (e : Entry) (past : List Entry) (event : Event) (task : Task) → IsSetting s → Grows s (e ∷ past) → e.lock ≡ 0 → e.event ≡ event →
     MayBook s past e.stamp event → ends_command c event ≡ true → IsUnfolded s stripe c past task → OwedBy s (e ∷ past) stripe c

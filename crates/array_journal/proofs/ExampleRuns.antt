@@ -2,6 +2,7 @@
 use Rattle.std.specs.Prelude.{◌≡◌, ◌==◌, ◌&&◌, ◌⊎◌, nat_lt, not, ℕ, true, false, List, [], ◌∷◌, None}
 use Rattle.std.proofs.Common.{refl, sym, subst, arith, inl, inr, lit<, lit≤}
 use Rattle.std.proofs.lemmas.Bool.Decides.{nat_tests}
+use Rattle.stripe_layout.specs.declared.mode.Mode.TheVariants.{Supervised, ThirdParty}
 use Rattle.sbc_cdbs.specs.declared.descriptor.Cdb.{Cdb}
 use Rattle.array_journal.specs.declared.entry.Entry.{Entry}
 use Rattle.array_journal.specs.declared.event.Event.TheVariants.{Fetch, Put, Take, Hold, Gone, Fresh, Open, Close, Note, Swap}
@@ -55,15 +56,15 @@ close-put : (put : Cdb) → May tiny (put_made put) (entry 5 0 (Close 0 true (at
 close-put put =
     (refl, (data_task, ((refl, refl), record { acts = acts; folds = none Folds (λ i. refl); no_cause = refl; answer = refl })))
   where
-    none : (act : Act) → ((i : ℕ) → acts_at false act DataOnly data_task i ≡ false) → AllNamed tiny (put_made put) 0 data_task act (at 4 1 ∷ [])
-    none act never = all_named-none tiny (put_made put) 0 data_task act (at 4 1 ∷ []) DataOnly false refl refl never
+    none : (act : Act) → ((i : ℕ) → acts_at Supervised act DataOnly data_task i ≡ false) → AllNamed tiny (put_made put) 0 data_task act (at 4 1 ∷ [])
+    none act never = all_named-none tiny (put_made put) 0 data_task act (at 4 1 ∷ []) DataOnly Supervised refl refl never
 
     acts : NamesActs tiny (put_made put) 5 0 data_task (at 4 1 ∷ [])
     acts = record {
       in_order = tt;
       only = ((refl, lit< tt), tt);
       fetches = none Fetches (λ i. refl);
-      puts = all_named-one tiny (put_made put) 0 data_task Puts (at 4 1 ∷ []) DataOnly false 0 refl refl (λ i. refl) refl;
+      puts = all_named-one tiny (put_made put) 0 data_task Puts (at 4 1 ∷ []) DataOnly Supervised 0 refl refl (λ i. refl) refl;
       diffs = none Diffs (λ i. refl);
       takes = none Takes (λ i. refl);
       holds = none Holds (λ i. refl);
@@ -95,7 +96,7 @@ delta_wiped-runs diff d = (
     (
       (refl, (refl, (lit< tt, refl))),
       (
-        (refl, (refl, (lit< tt, (old_task, record { act = record { opening = (refl, lit< tt); in_book = refl; of_task = refl; not_gone = refl; not_shut = refl; once = refl; same_life = refl; at_row = refl; whole = refl; spelt = d }; written = refl; sent_by_mode = refl; dropped_when_due = refl })))),
+        (refl, (refl, (lit< tt, (old_task, record { act = record { opening = (refl, lit< tt); in_book = refl; of_task = refl; not_gone = refl; not_shut = refl; once = refl; same_life = refl; at_row = refl; whole = refl; spelt = d }; written = refl; sent_by_mode = refl; back_by_mode = refl; dropped_when_due = refl })))),
         (
           (tt, (refl, record { numbered = refl; sound = old_sound; decided = refl; alone = refl; room = refl })),
           tt,
@@ -124,8 +125,8 @@ close-rebuilt : (second third put : Cdb) → May tiny (mended second third put) 
 close-rebuilt second third put =
     (refl, (mend_task, ((refl, refl), record { acts = acts; folds = none Folds (λ i. refl); no_cause = refl; answer = refl })))
   where
-    none : (act : Act) → ((i : ℕ) → acts_at false act Rebuild mend_task i ≡ false) → AllNamed tiny (mended second third put) 0 mend_task act (at 6 2 ∷ at 7 3 ∷ at 8 1 ∷ [])
-    none act never = all_named-none tiny (mended second third put) 0 mend_task act (at 6 2 ∷ at 7 3 ∷ at 8 1 ∷ []) Rebuild false refl refl never
+    none : (act : Act) → ((i : ℕ) → acts_at Supervised act Rebuild mend_task i ≡ false) → AllNamed tiny (mended second third put) 0 mend_task act (at 6 2 ∷ at 7 3 ∷ at 8 1 ∷ [])
+    none act never = all_named-none tiny (mended second third put) 0 mend_task act (at 6 2 ∷ at 7 3 ∷ at 8 1 ∷ []) Rebuild Supervised refl refl never
 
     is_fetched : (i : ℕ) → (i ≡ 1) ⊎ (i ≡ 2) → is_named (mended second third put) 0 Fetches i (at 6 2 ∷ at 7 3 ∷ at 8 1 ∷ []) ≡ true
     is_fetched i (inl e) = subst (λ (k : ℕ). is_named (mended second third put) 0 Fetches k (at 6 2 ∷ at 7 3 ∷ at 8 1 ∷ []) ≡ true) (sym e) refl
@@ -136,7 +137,7 @@ close-rebuilt second third put =
       in_order = (refl, (refl, tt));
       only = ((refl, lit< tt), ((refl, lit< tt), ((refl, lit< tt), tt)));
       fetches = λ i h. is_fetched i (one_or_two i h);
-      puts = all_named-one tiny (mended second third put) 0 mend_task Puts (at 6 2 ∷ at 7 3 ∷ at 8 1 ∷ []) Rebuild false 0 refl refl (λ i. refl) refl;
+      puts = all_named-one tiny (mended second third put) 0 mend_task Puts (at 6 2 ∷ at 7 3 ∷ at 8 1 ∷ []) Rebuild Supervised 0 refl refl (λ i. refl) refl;
       diffs = none Diffs (λ i. refl);
       takes = none Takes (λ i. refl);
       holds = none Holds (λ i. refl);
@@ -176,7 +177,7 @@ rebuilt-runs second third put r q p = (
 abbrev gather_taken : Cdb → Cdb → Cdb → List Entry
 gather_taken fetch hold take =
     entry 6 2 (Take 0 (at 3 0) take 0 zero_byte)
-    ∷ entry 5 2 (Hold 0 (at 3 0) hold 0 zero_byte true (at 4 3 ∷ []))
+    ∷ entry 5 2 (Hold 0 (at 3 0) hold 0 zero_byte true (at 4 3 ∷ []) false)
     ∷ entry 4 3 (Fetch 0 (at 3 0) fetch 0 zero_byte)
     ∷ entry 3 0 (Open 0 gather_task)
     ∷ entry 2 0 (Note 0 (at 1 1))
@@ -189,8 +190,8 @@ close-gathered : (fetch hold take : Cdb) → May tiny_third (gather_taken fetch 
 close-gathered fetch hold take =
     (refl, (gather_task, ((refl, refl), record { acts = acts; folds = none Folds (λ i. refl); no_cause = refl; answer = refl })))
   where
-    none : (act : Act) → ((i : ℕ) → acts_at true act DegradedRead gather_task i ≡ false) → AllNamed tiny_third (gather_taken fetch hold take) 0 gather_task act (at 4 3 ∷ at 5 2 ∷ at 6 2 ∷ [])
-    none act never = all_named-none tiny_third (gather_taken fetch hold take) 0 gather_task act (at 4 3 ∷ at 5 2 ∷ at 6 2 ∷ []) DegradedRead true refl refl never
+    none : (act : Act) → ((i : ℕ) → acts_at ThirdParty act DegradedRead gather_task i ≡ false) → AllNamed tiny_third (gather_taken fetch hold take) 0 gather_task act (at 4 3 ∷ at 5 2 ∷ at 6 2 ∷ [])
+    none act never = all_named-none tiny_third (gather_taken fetch hold take) 0 gather_task act (at 4 3 ∷ at 5 2 ∷ at 6 2 ∷ []) DegradedRead ThirdParty refl refl never
 
     acts : NamesActs tiny_third (gather_taken fetch hold take) 7 0 gather_task (at 4 3 ∷ at 5 2 ∷ at 6 2 ∷ [])
     acts = record {
@@ -199,8 +200,8 @@ close-gathered fetch hold take =
       fetches = λ i h. subst (λ (k : ℕ). is_named (gather_taken fetch hold take) 0 Fetches k (at 4 3 ∷ at 5 2 ∷ at 6 2 ∷ []) ≡ true) (sym (only_two i h)) refl;
       puts = none Puts (λ i. refl);
       diffs = none Diffs (λ i. refl);
-      takes = all_named-one tiny_third (gather_taken fetch hold take) 0 gather_task Takes (at 4 3 ∷ at 5 2 ∷ at 6 2 ∷ []) DegradedRead true 1 refl refl (λ i. refl) refl;
-      holds = all_named-one tiny_third (gather_taken fetch hold take) 0 gather_task Holds (at 4 3 ∷ at 5 2 ∷ at 6 2 ∷ []) DegradedRead true 1 refl refl (λ i. refl) refl;
+      takes = all_named-one tiny_third (gather_taken fetch hold take) 0 gather_task Takes (at 4 3 ∷ at 5 2 ∷ at 6 2 ∷ []) DegradedRead ThirdParty 1 refl refl (λ i. refl) refl;
+      holds = all_named-one tiny_third (gather_taken fetch hold take) 0 gather_task Holds (at 4 3 ∷ at 5 2 ∷ at 6 2 ∷ []) DegradedRead ThirdParty 1 refl refl (λ i. refl) refl;
     }
 
 pub gathered-runs : GatheredRuns
@@ -209,7 +210,7 @@ gathered-runs fetch hold take f h t = (
   (
     (refl, (refl, (lit< tt, (gather_task, record { act = record { opening = (refl, lit< tt); in_book = refl; of_task = refl; not_gone = refl; not_shut = refl; once = refl; same_life = refl; at_row = refl; whole = refl; spelt = t }; taken = refl })))),
     (
-      (refl, (refl, (lit< tt, (gather_task, record { act = record { opening = (refl, lit< tt); in_book = refl; of_task = refl; not_gone = refl; not_shut = refl; once = refl; same_life = refl; at_row = refl; whole = refl; spelt = h }; kept_here = refl; fetched = ((refl, (refl, lit< tt)), tt); made = refl })))),
+      (refl, (refl, (lit< tt, (gather_task, record { act = record { opening = (refl, lit< tt); in_book = refl; of_task = refl; not_gone = refl; not_shut = refl; once = refl; same_life = refl; at_row = refl; whole = refl; spelt = h }; kept_here = refl; not_handed = refl; fetched = ((refl, (refl, lit< tt)), tt); made = refl })))),
       (
         (refl, (refl, (lit< tt, (gather_task, record { act = record { opening = (refl, lit< tt); in_book = refl; of_task = refl; not_gone = refl; not_shut = refl; once = refl; same_life = refl; at_row = refl; whole = refl; spelt = f }; read = refl })))),
         (

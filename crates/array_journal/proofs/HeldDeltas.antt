@@ -5,6 +5,7 @@ use Rattle.std.specs.List.{AllByRecursion}
 use Rattle.std.proofs.Common.{refl, ap, sym, ◌∙◌, subst, inl, inr}
 use Rattle.std.proofs.lemmas.Bool.{eq-eqb, ne_eqb, cases_eq, and_parts, or_left, or_cases, both_ways, false≢true}
 use Rattle.blocks_core.specs.Xor.{xor}
+use Rattle.stripe_layout.specs.declared.mode.Mode.{Mode}
 use Rattle.sbc_cdbs.specs.declared.descriptor.Cdb.{Cdb}
 use Rattle.array_journal.specs.declared.at.At.{At}
 use Rattle.array_journal.specs.declared.entry.Entry.{Entry}
@@ -18,7 +19,7 @@ use Rattle.array_journal.specs.declared.task.Task.{Task}
 use Rattle.array_journal.specs.Lists.{slice}
 use Rattle.array_journal.specs.Entries.{entry_at, some_at}
 use Rattle.array_journal.specs.Commands.{task_of}
-use Rattle.array_journal.specs.Acts.{Diffs, Takes, Holds, acts_at, is_third_party, is_act}
+use Rattle.array_journal.specs.Acts.{Diffs, Takes, Holds, acts_at, is_act}
 use Rattle.array_journal.specs.Media.{media, held, held_after, HeldBlocks}
 use Rattle.array_journal.specs.May.{MayTarget, MayFold, IsFoldSource}
 use Rattle.array_journal.specs.Run.{Grows, IsSetting}
@@ -74,26 +75,30 @@ other-diff command event reads e q d differs = ap (is_act Diffs d) q ∙ reads d
 
 deltas-after : (s : Setting) (i : ℕ) (e : Entry) (past : List Entry) (event : Event) → e.event ≡ event → e.lock ≡ i + 1 → 1 ≤ s.geometry.block →
     Grows s (e ∷ past) → MayTarget s past e.stamp i event → AllDeltas s i past (held s i past) → AllDeltas s i (e ∷ past) (held_after s (media s i past) event (held s i past))
-deltas-after s i e past (Diff command opened cdb row bytes true dropped) q here b g may p =
+deltas-after s i e past (Diff command opened cdb row bytes true dropped back) q here b g may p =
     others-deltas s i command e past
-    (new-distinct s i command past e.stamp (Diff command opened cdb row bytes true dropped) g.1 may (or_left (command == command) false (eq-eqb command command refl)))
-    (other-diff command (Diff command opened cdb row bytes true dropped) (λ c. refl) e q) p
-deltas-after s i e past (Diff command opened cdb row bytes false dropped) q here b g may p =
+    (new-distinct s i command past e.stamp (Diff command opened cdb row bytes true dropped back) g.1 may (or_left (command == command) false (eq-eqb command command refl)))
+    (other-diff command (Diff command opened cdb row bytes true dropped back) (λ c. refl) e q) p
+deltas-after s i e past (Diff command opened cdb row bytes false dropped true) q here b g may p =
+    others-deltas s i command e past
+    (new-distinct s i command past e.stamp (Diff command opened cdb row bytes false dropped true) g.1 may (or_left (command == command) false (eq-eqb command command refl)))
+    (other-diff command (Diff command opened cdb row bytes false dropped true) (λ c. refl) e q) p
+deltas-after s i e past (Diff command opened cdb row bytes false dropped false) q here b g may p =
     let added : HeldBlocks = record { owner = command; row = row; bytes = xor (slice (media s i past) (row * s.geometry.block) (length bytes)) bytes } in
     all-joined (IsDelta s i (e ∷ past)) (held s i past) added
     (others-deltas s i command e past
-    (new-distinct s i command past e.stamp (Diff command opened cdb row bytes false dropped) g.1 may (or_left (command == command) false (eq-eqb command command refl)))
-    (other-diff command (Diff command opened cdb row bytes false dropped) (λ c. refl) e q) p)
+    (new-distinct s i command past e.stamp (Diff command opened cdb row bytes false dropped false) g.1 may (or_left (command == command) false (eq-eqb command command refl)))
+    (other-diff command (Diff command opened cdb row bytes false dropped false) (λ c. refl) e q) p)
     (λ differed. sym (delta_made-newest s i command e past here (ap (is_act Diffs command) q ∙ eq-eqb command command refl)
     ∙ ap (diff_delta s i past) q))
-deltas-after s i e past (Hold command opened cdb row bytes true names) q here b g may p =
-    let event : Event = Hold command opened cdb row bytes true names in
+deltas-after s i e past (Hold command opened cdb row bytes true names back) q here b g may p =
+    let event : Event = Hold command opened cdb row bytes true names back in
     all-joined (IsDelta s i (e ∷ past)) (held s i past) (record { owner = command; row = row; bytes = bytes })
     (quiet-deltas s i e past event (held s i past) q (λ c. refl) p)
     (λ differed. absurd (never-both s i command (e ∷ past) (acted-has s i command Diffs (e ∷ past) g differed)
     (acted-has s i command Holds (e ∷ past) g (some_at-newest (i + 1) (is_act Holds command) e past here (ap (is_act Holds command) q ∙ eq-eqb command command refl)))))
-deltas-after s i e past (Hold command opened cdb row bytes false names) q here b g may p =
-    quiet-deltas s i e past (Hold command opened cdb row bytes false names) (held s i past) q (λ c. refl) p
+deltas-after s i e past (Hold command opened cdb row bytes false names back) q here b g may p =
+    quiet-deltas s i e past (Hold command opened cdb row bytes false names back) (held s i past) q (λ c. refl) p
 deltas-after s i e past (Take command opened cdb row bytes) q here b g may p =
     subst (AllDeltas s i (e ∷ past))
     (sym (taken-without s i command past e.stamp (Take command opened cdb row bytes) opened may.0 0 row (length bytes) cdb bytes b g.1 may
@@ -135,17 +140,17 @@ taken-delta s past stamp i c opened cdb row bytes b g m differed = by (taken-who
         same ∙ d (subst (λ (n : ℕ). some_at (i + 1) (is_act Diffs n) past ≡ true) (sym own) differed) ∙ ap (λ (n : ℕ). delta_made s i n past) own
 
 -- an update that takes had its diff
-update_hold : (third : Bool) (kind : Kind) (task : Task) (i : ℕ) → kind ≡ Update → acts_at third Holds kind task i ≡ true → ⊥
-update_hold third Update task i k h = false≢true h
-update_hold third Read task i k h = false≢true h
-update_hold third DataOnly task i k h = false≢true h
-update_hold third DegradedRead task i k h = apart k
+update_hold : (mode : Mode) (kind : Kind) (task : Task) (i : ℕ) → kind ≡ Update → acts_at mode Holds kind task i ≡ true → ⊥
+update_hold mode Update task i k h = false≢true h
+update_hold mode Read task i k h = false≢true h
+update_hold mode DataOnly task i k h = false≢true h
+update_hold mode DegradedRead task i k h = apart k
   where
     apart : DegradedRead ≡ Update → ⊥
     apart q = absurd cc
-update_hold third DegradedWrite task i k h = false≢true h
-update_hold third Rebuild task i k h = false≢true h
-update_hold third Resync task i k h = false≢true h
+update_hold mode DegradedWrite task i k h = false≢true h
+update_hold mode Rebuild task i k h = false≢true h
+update_hold mode Resync task i k h = false≢true h
 
 took-differed : (s : Setting) (i c : ℕ) (past : List Entry) (task : Task) → Grows s past → task_of c past ≡ Some task → task.kind ≡ Update →
     some_at (i + 1) (is_act Takes c) past ≡ true → some_at (i + 1) (is_act Diffs c) past ≡ true
@@ -160,8 +165,8 @@ took-differed s i c past task g q k h = elim (or_cases (some_at (i + 1) (is_act 
     never : HasAct s past i c Holds → ⊥
     never (other, (r, a)) =
         let same : other ≡ task = one other task (sym r ∙ q) in
-        update_hold (is_third_party s.mode) other.kind other i (ap (λ (t : Task). t.kind) same ∙ k)
-        (and_parts (nat_lt i s.geometry.targets) (acts_at (is_third_party s.mode) Holds other.kind other i) a).1
+        update_hold s.mode other.kind other i (ap (λ (t : Task). t.kind) same ∙ k)
+        (and_parts (nat_lt i s.geometry.targets) (acts_at s.mode Holds other.kind other i) a).1
 
 -- a take that stands took its command's delta
 took-delta : (s : Setting) (i c : ℕ) (name : At) (past : List Entry) (opened : At) (cdb : Cdb) (row : ℕ) (bytes : List ℕ) → 1 ≤ s.geometry.block → Grows s past →
@@ -235,10 +240,10 @@ fold-delta s past stamp i c opened cdb row bytes names task name set g m = by (e
           sym source.1 ∙ took-delta s task.target c name past old place from was set.array.least_block g m.at_source
               (q ∙ ap (λ (n : ℕ). Some (Take n old place from was)) same) differed,
         )
-    by (Some (Diff command old place from was sent dropped)) q source =
-        let act : is_act Diffs c (Diff command old place from was sent dropped) ≡ true = eq-eqb command c source.1 in (
-          named (is_act Diffs c) (Diff command old place from was sent dropped) q act,
+    by (Some (Diff command old place from was sent dropped back)) q source =
+        let act : is_act Diffs c (Diff command old place from was sent dropped back) ≡ true = eq-eqb command c source.1 in (
+          named (is_act Diffs c) (Diff command old place from was sent dropped back) q act,
           one bytes (delta_made s task.target c past)
-              (sym source.4 ∙ delta_at-made s task.target c name past (Diff command old place from was sent dropped) g m.at_source q act),
+              (sym source.2 ∙ delta_at-made s task.target c name past (Diff command old place from was sent dropped back) g m.at_source q act),
         )
     by _ q source = absurd source

@@ -36,8 +36,9 @@ pub record IsHoldOf (i c : ℕ) (bytes : List ℕ) (past : List Entry) : Type 0 
   pub row : ℕ
   pub kept : Bool
   pub names : List At
+  pub back : Bool
   pub at_target : name.lock ≡ i + 1
-  pub stands : entry_at name past ≡ Some (Hold c opened cdb row bytes kept names)
+  pub stands : entry_at name past ≡ Some (Hold c opened cdb row bytes kept names back)
 
 hold-more : (i c : ℕ) (bytes : List ℕ) (e : Entry) (past : List Entry) → stamps_below e.lock e.stamp past ≡ true → IsHoldOf i c bytes past → IsHoldOf i c bytes (e ∷ past)
 hold-more i c bytes e past b h = record {
@@ -47,8 +48,9 @@ hold-more i c bytes e past b h = record {
   row = h.row;
   kept = h.kept;
   names = h.names;
+  back = h.back;
   at_target = h.at_target;
-  stands = entry_at-more h.name e past (Hold c h.opened h.cdb h.row bytes h.kept h.names) b h.stands;
+  stands = entry_at-more h.name e past (Hold c h.opened h.cdb h.row bytes h.kept h.names h.back) b h.stands;
 }
 
 -- held blocks come from a diff or are those of a hold
@@ -71,12 +73,13 @@ kept-gathered i past keeps hs p = all-kept (IsGathered i past) (IsGathered i pas
 gathered-after : (s : Setting) (i : ℕ) (e : Entry) (past : List Entry) (event : Event) → e.event ≡ event → e.lock ≡ i + 1 → 1 ≤ s.geometry.block →
     Grows s (e ∷ past) → MayTarget s past e.stamp i event → AllGathered i (e ∷ past) (held s i past) →
     AllGathered i (e ∷ past) (held_after s (media s i past) event (held s i past))
-gathered-after s i e past (Diff command opened cdb row bytes true dropped) q here b g may p = p
-gathered-after s i e past (Diff command opened cdb row bytes false dropped) q here b g may p =
+gathered-after s i e past (Diff command opened cdb row bytes true dropped back) q here b g may p = p
+gathered-after s i e past (Diff command opened cdb row bytes false dropped true) q here b g may p = p
+gathered-after s i e past (Diff command opened cdb row bytes false dropped false) q here b g may p =
     all-joined (IsGathered i (e ∷ past)) (held s i past)
     (record { owner = command; row = row; bytes = xor (slice (media s i past) (row * s.geometry.block) (length bytes)) bytes }) p
     (inl (some_at-newest (i + 1) (is_act Diffs command) e past here (ap (is_act Diffs command) q ∙ eq-eqb command command refl)))
-gathered-after s i e past (Hold command opened cdb row bytes true names) q here b g may p =
+gathered-after s i e past (Hold command opened cdb row bytes true names back) q here b g may p =
     all-joined (IsGathered i (e ∷ past)) (held s i past) (record { owner = command; row = row; bytes = bytes }) p
     (inr (record {
       name = name_of e;
@@ -85,10 +88,11 @@ gathered-after s i e past (Hold command opened cdb row bytes true names) q here 
       row = row;
       kept = true;
       names = names;
+      back = back;
       at_target = here;
       stands = entry_at-here (name_of e) e past refl refl ∙ ap (λ (x : Event). Some x) q;
     }))
-gathered-after s i e past (Hold command opened cdb row bytes false names) q here b g may p = p
+gathered-after s i e past (Hold command opened cdb row bytes false names back) q here b g may p = p
 gathered-after s i e past (Take command opened cdb row bytes) q here b g may p =
     subst (AllGathered i (e ∷ past))
     (sym (taken-without s i command past e.stamp (Take command opened cdb row bytes) opened may.0 0 row (length bytes) cdb bytes b g.1 may

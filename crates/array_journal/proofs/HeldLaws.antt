@@ -7,6 +7,9 @@ use Rattle.std.proofs.lemmas.Bool.{eq-eqb, ne_eqb, eqb-true, eqb-false, le-leb, 
 use Rattle.std.proofs.lemmas.Nat.{mul-le}
 use Rattle.std.proofs.lemmas.List.{length-take}
 use Rattle.blocks_core.specs.Xor.{xor}
+use Rattle.stripe_layout.specs.declared.mode.Mode.{Mode}
+use Rattle.stripe_layout.specs.Modes.{takes_delta, sends_delta, hands_delta_back, target_gathers}
+use Rattle.stripe_layout.proofs.ModeLaws.{taken-unsent, taken-unhanded, left-taken, taken-ungathered}
 use Rattle.sbc_cdbs.specs.declared.descriptor.Cdb.{Cdb}
 use Rattle.array_journal.specs.declared.at.At.{At}
 use Rattle.array_journal.specs.declared.entry.Entry.{Entry}
@@ -20,7 +23,7 @@ use Rattle.array_journal.specs.declared.task.Task.{Task}
 use Rattle.array_journal.specs.Lists.{slice}
 use Rattle.array_journal.specs.Entries.{entry_at, some_at, count_before, stamps_below}
 use Rattle.array_journal.specs.Commands.{ends_command, is_open, task_of, is_shared, is_shared_write, rows_meet, tasks_conflict}
-use Rattle.array_journal.specs.Acts.{Act, Diffs, Takes, Holds, acts_at, has_act, is_third_party, is_act, shuts_command, task_bytes}
+use Rattle.array_journal.specs.Acts.{Act, Diffs, Takes, Holds, acts_at, gatherer, has_act, is_act, shuts_command, task_bytes}
 use Rattle.array_journal.specs.Media.{media, held, held_after, HeldBlocks, holds_rows, rest_of, take_rows, rows_held, with_owner, owners_of}
 use Rattle.array_journal.specs.Lives.{is_gone, life_of, is_swap_of}
 use Rattle.array_journal.specs.May.{MayAct, MayTarget, IsTask, swapped_since, freshes_after, discards}
@@ -86,7 +89,7 @@ lacks c xs ys f h = elim (cases_Bool (has_owner c xs)) [
   | inr none ↦ none
 ]
 
-distinct-kept : (passing : HeldBlocks → Bool) (hs : List HeldBlocks) → AreDistinct hs → AreDistinct (filter passing hs)
+pub distinct-kept : (passing : HeldBlocks → Bool) (hs : List HeldBlocks) → AreDistinct hs → AreDistinct (filter passing hs)
 distinct-kept passing [] d = tt
 distinct-kept passing (x ∷ hs) d = choose (passing x) (distinct-kept passing hs d.1)
   where
@@ -150,30 +153,30 @@ holder-open s i past h g owned p = elim (cases_Bool (some_at 0 (ends_command h.o
         let y : life_of i past ≤ count_before 0 (is_swap_of i) p.opened.stamp past = fresh-le_before s i p.opened past g p.same_life in omega arith
     barred (is_emptied q b) = discarded-lacks s i h.owner past g b owned
 
--- which commands take: supervised updates, or degraded reads that a target gathers
-abbrev pub TakesBy : Bool → Task → ℕ → Type 0
-TakesBy third task i = ((task.kind ≡ Update) × (third ≡ false) × (i ≡ task.target)) ⊎ ((task.kind ≡ DegradedRead) × (third ≡ true))
+-- which commands take: updates whose delta is held, or degraded reads that a target gathers
+abbrev pub TakesBy : Mode → Task → ℕ → Type 0
+TakesBy mode task i = ((task.kind ≡ Update) × (takes_delta mode ≡ true) × (i ≡ task.target)) ⊎ ((task.kind ≡ DegradedRead) × (target_gathers mode ≡ true))
 
 -- two runs of rows that don't meet
 abbrev pub AreApart : Task → Task → Type 0
 AreApart a b = (a.row + a.count ≤ b.row) ⊎ (b.row + b.count ≤ a.row)
 
-takes-kind : (third : Bool) (kind : Kind) (task : Task) (i : ℕ) → task.kind ≡ kind → acts_at third Takes kind task i ≡ true → TakesBy third task i
-takes-kind true Update task i k h = absurd (false≢true h)
-takes-kind false Update task i k h = inl (k, refl, eqb-true i task.target h)
-takes-kind true DegradedRead task i k h = inr (k, refl)
-takes-kind false DegradedRead task i k h = absurd (false≢true h)
-takes-kind third Read task i k h = absurd (false≢true h)
-takes-kind third DataOnly task i k h = absurd (false≢true h)
-takes-kind third DegradedWrite task i k h = absurd (false≢true h)
-takes-kind third Rebuild task i k h = absurd (false≢true h)
-takes-kind third Resync task i k h = absurd (false≢true h)
+takes-kind : (mode : Mode) (kind : Kind) (task : Task) (i : ℕ) → task.kind ≡ kind → acts_at mode Takes kind task i ≡ true → TakesBy mode task i
+takes-kind mode Update task i k h =
+    let parts : (takes_delta mode ≡ true) × ((i == task.target) ≡ true) = and_parts (takes_delta mode) (i == task.target) h in
+    inl (k, parts.0, eqb-true i task.target parts.1)
+takes-kind mode DegradedRead task i k h = inr (k, (and_parts (target_gathers mode) (i == gatherer task) h).0)
+takes-kind mode Read task i k h = absurd (false≢true h)
+takes-kind mode DataOnly task i k h = absurd (false≢true h)
+takes-kind mode DegradedWrite task i k h = absurd (false≢true h)
+takes-kind mode Rebuild task i k h = absurd (false≢true h)
+takes-kind mode Resync task i k h = absurd (false≢true h)
 
-has-there : (s : Setting) (act : Act) (task : Task) (i : ℕ) → has_act s act task i ≡ true → acts_at (is_third_party s.mode) act task.kind task i ≡ true
-has-there s act task i h = (and_parts (nat_lt i s.geometry.targets) (acts_at (is_third_party s.mode) act task.kind task i) h).1
+has-there : (s : Setting) (act : Act) (task : Task) (i : ℕ) → has_act s act task i ≡ true → acts_at s.mode act task.kind task i ≡ true
+has-there s act task i h = (and_parts (nat_lt i s.geometry.targets) (acts_at s.mode act task.kind task i) h).1
 
-takes-by : (s : Setting) (task : Task) (i : ℕ) → has_act s Takes task i ≡ true → TakesBy (is_third_party s.mode) task i
-takes-by s task i h = takes-kind (is_third_party s.mode) task.kind task i refl (has-there s Takes task i h)
+takes-by : (s : Setting) (task : Task) (i : ℕ) → has_act s Takes task i ≡ true → TakesBy s.mode task i
+takes-by s task i h = takes-kind s.mode task.kind task i refl (has-there s Takes task i h)
 
 rows-apart : (a b : Task) → rows_meet a b ≡ false → AreApart a b
 rows-apart a b h = elim (and_cases (nat_lt a.row (b.row + b.count)) (nat_lt b.row (a.row + a.count)) h) [
@@ -189,7 +192,7 @@ stripes-apart s a b p q h =
     let y : b.stripe * s.geometry.unit ≤ b.row = q.from_stripe in omega arith
 
 -- two commands that take at one target and don't conflict have no row in common
-takers-apart : (s : Setting) (i : ℕ) (a b : Task) → IsTask s a → IsTask s b → TakesBy (is_third_party s.mode) a i → TakesBy (is_third_party s.mode) b i →
+takers-apart : (s : Setting) (i : ℕ) (a b : Task) → IsTask s a → IsTask s b → TakesBy s.mode a i → TakesBy s.mode b i →
     tasks_conflict a b ≡ false → AreApart a b
 takers-apart s i a b p q (inl x) (inl y) h =
     rows-apart a b (last (is_shared_write a.kind) (is_shared_write b.kind) (a.target == b.target) (rows_meet a b)
@@ -209,14 +212,14 @@ takers-apart s i a b p q (inr x) (inr y) h = elim (cases_order a.stripe b.stripe
   | inr (inl less) ↦ inl (stripes-apart s a b p q less)
   | inr (inr more) ↦ inr (stripes-apart s b a q p more)
 ]
-takers-apart s i a b p q (inl x) (inr y) h = absurd (both_ways (is_third_party s.mode) x.1 y.1)
-takers-apart s i a b p q (inr x) (inl y) h = absurd (both_ways (is_third_party s.mode) y.1 x.1)
+takers-apart s i a b p q (inl x) (inr y) h = absurd (both_ways (target_gathers s.mode) (taken-ungathered s.mode x.1) y.1)
+takers-apart s i a b p q (inr x) (inl y) h = absurd (both_ways (target_gathers s.mode) (taken-ungathered s.mode y.1) x.1)
 
 apart-other : (a b : Task) → AreApart a b → AreApart b a
 apart-other a b (inl x) = inr x
 apart-other a b (inr x) = inl x
 
-open-takers-apart : (s : Setting) (i c d : ℕ) (t u : Task) (past : List Entry) → Grows s past → c ≢ d → is_open c past ≡ true → is_open d past ≡ true →
+pub open-takers-apart : (s : Setting) (i c d : ℕ) (t u : Task) (past : List Entry) → Grows s past → c ≢ d → is_open c past ≡ true → is_open d past ≡ true →
     task_of c past ≡ Some t → task_of d past ≡ Some u → has_act s Takes t i ≡ true → has_act s Takes u i ≡ true → AreApart t u
 open-takers-apart s i c d t u past g other oc od q r x y = elim (cases_order c d) [
   | inl same ↦ absurd (other same)
@@ -229,7 +232,7 @@ open-takers-apart s i c d t u past g other oc od q r x y = elim (cases_order c d
 abbrev pub without : ℕ → List HeldBlocks → List HeldBlocks
 without c hs = filter (λ h. not (h.owner == c)) hs
 
-without-none : (c : ℕ) (hs : List HeldBlocks) → has_owner c hs ≡ false → without c hs ≡ hs
+pub without-none : (c : ℕ) (hs : List HeldBlocks) → has_owner c hs ≡ false → without c hs ≡ hs
 without-none c [] h = refl
 without-none c (x ∷ hs) h =
     let parts : ((x.owner == c) ≡ false) × (has_owner c hs ≡ false) = or_parts (x.owner == c) (has_owner c hs) h in
@@ -346,31 +349,30 @@ taken-source s i c (e ∷ past) g h = elim (some_at-cases (i + 1) (is_act Takes 
     newest : (row len : ℕ) × ((bytes : List ℕ) × (rows_held s.geometry.block c row len (held s i past) ≡ Some bytes)) → has_source i c (e ∷ past) ≡ true
     newest (row, len, (bytes, q)) = has_source-more i c e past (owner-source s i c past g.1 (found-owner s.geometry.block c row len bytes (held s i past) q))
 
-diff-takes : (third : Bool) (kind : Kind) (task : Task) (i : ℕ) → third ≡ false → acts_at third Diffs kind task i ≡ true → acts_at third Takes kind task i ≡ true
-diff-takes true kind task i t h = absurd (false≢true (sym t))
-diff-takes false Update task i t h = h
-diff-takes false Read task i t h = absurd (false≢true h)
-diff-takes false DataOnly task i t h = absurd (false≢true h)
-diff-takes false DegradedRead task i t h = absurd (false≢true h)
-diff-takes false DegradedWrite task i t h = absurd (false≢true h)
-diff-takes false Rebuild task i t h = absurd (false≢true h)
-diff-takes false Resync task i t h = absurd (false≢true h)
+pub diff-takes : (mode : Mode) (kind : Kind) (task : Task) (i : ℕ) → takes_delta mode ≡ true → acts_at mode Diffs kind task i ≡ true → acts_at mode Takes kind task i ≡ true
+diff-takes mode Update task i t h = and_from (takes_delta mode) (i == task.target) t h
+diff-takes mode Read task i t h = absurd (false≢true h)
+diff-takes mode DataOnly task i t h = absurd (false≢true h)
+diff-takes mode DegradedRead task i t h = absurd (false≢true h)
+diff-takes mode DegradedWrite task i t h = absurd (false≢true h)
+diff-takes mode Rebuild task i t h = absurd (false≢true h)
+diff-takes mode Resync task i t h = absurd (false≢true h)
 
-hold-takes : (third : Bool) (kind : Kind) (task : Task) (i : ℕ) → acts_at third Holds kind task i ≡ true → acts_at third Takes kind task i ≡ true
-hold-takes third DegradedRead task i h = h
-hold-takes third Read task i h = absurd (false≢true h)
-hold-takes third Update task i h = absurd (false≢true h)
-hold-takes third DataOnly task i h = absurd (false≢true h)
-hold-takes third DegradedWrite task i h = absurd (false≢true h)
-hold-takes third Rebuild task i h = absurd (false≢true h)
-hold-takes third Resync task i h = absurd (false≢true h)
+pub hold-takes : (mode : Mode) (kind : Kind) (task : Task) (i : ℕ) → acts_at mode Holds kind task i ≡ true → acts_at mode Takes kind task i ≡ true
+hold-takes mode DegradedRead task i h = h
+hold-takes mode Read task i h = absurd (false≢true h)
+hold-takes mode Update task i h = absurd (false≢true h)
+hold-takes mode DataOnly task i h = absurd (false≢true h)
+hold-takes mode DegradedWrite task i h = absurd (false≢true h)
+hold-takes mode Rebuild task i h = absurd (false≢true h)
+hold-takes mode Resync task i h = absurd (false≢true h)
 
-takes-from : (s : Setting) (act : Act) (task : Task) (i : ℕ) → has_act s act task i ≡ true →
-    (acts_at (is_third_party s.mode) act task.kind task i ≡ true → acts_at (is_third_party s.mode) Takes task.kind task i ≡ true) → has_act s Takes task i ≡ true
+pub takes-from : (s : Setting) (act : Act) (task : Task) (i : ℕ) → has_act s act task i ≡ true →
+    (acts_at s.mode act task.kind task i ≡ true → acts_at s.mode Takes task.kind task i ≡ true) → has_act s Takes task i ≡ true
 takes-from s act task i h f =
-    let parts : (nat_lt i s.geometry.targets ≡ true) × (acts_at (is_third_party s.mode) act task.kind task i ≡ true) =
-    and_parts (nat_lt i s.geometry.targets) (acts_at (is_third_party s.mode) act task.kind task i) h in
-    and_from (nat_lt i s.geometry.targets) (acts_at (is_third_party s.mode) Takes task.kind task i) parts.0 (f parts.1)
+    let parts : (nat_lt i s.geometry.targets ≡ true) × (acts_at s.mode act task.kind task i ≡ true) =
+    and_parts (nat_lt i s.geometry.targets) (acts_at s.mode act task.kind task i) h in
+    and_from (nat_lt i s.geometry.targets) (acts_at s.mode Takes task.kind task i) parts.0 (f parts.1)
 
 -- an event that neither takes, shuts nor replaces a disk
 abbrev pub IsQuietHere : ℕ → Event → Type 0
@@ -457,33 +459,35 @@ holding-after s i e past m (Fetch command opened cdb row bytes) q here b g may p
     quiet-holding s i e past (Fetch command opened cdb row bytes) q g (λ c name. (refl, refl, refl)) p
 holding-after s i e past m (Put command opened cdb row bytes names) q here b g may p =
     quiet-holding s i e past (Put command opened cdb row bytes names) q g (λ c name. (refl, refl, refl)) p
-holding-after s i e past m (Diff command opened cdb row bytes true dropped) q here b g may p =
-    quiet-holding s i e past (Diff command opened cdb row bytes true dropped) q g (λ c name. (refl, refl, refl)) p
-holding-after s i e past m (Diff command opened cdb row bytes false dropped) q here b g may p =
+holding-after s i e past m (Diff command opened cdb row bytes true dropped back) q here b g may p =
+    quiet-holding s i e past (Diff command opened cdb row bytes true dropped back) q g (λ c name. (refl, refl, refl)) p
+holding-after s i e past m (Diff command opened cdb row bytes false dropped true) q here b g may p =
+    quiet-holding s i e past (Diff command opened cdb row bytes false dropped true) q g (λ c name. (refl, refl, refl)) p
+holding-after s i e past m (Diff command opened cdb row bytes false dropped false) q here b g may p =
     let old : HoldingAfter s i e past (held s i past) =
-    quiet-holding s i e past (Diff command opened cdb row bytes false dropped) q g (λ c name. (refl, refl, refl)) p in
+    quiet-holding s i e past (Diff command opened cdb row bytes false dropped false) q g (λ c name. (refl, refl, refl)) p in
     let source : ((command == command) || false) ≡ true = or_left (command == command) false (eq-eqb command command refl) in
     let added : HeldBlocks = record { owner = command; row = row; bytes = xor (slice m (row * s.geometry.block) (length bytes)) bytes } in (
       all-joined (IsHeld s i (e ∷ past)) (held s i past) added old.0
-          (new-held s i command e past (Diff command opened cdb row bytes false dropped) Diffs opened may.0 0 row (length bytes) cdb
+          (new-held s i command e past (Diff command opened cdb row bytes false dropped false) Diffs opened may.0 0 row (length bytes) cdb
           (xor (slice m (row * s.geometry.block) (length bytes)) bytes) q here g may source (λ name. (refl, refl, refl)) may.1.act
-          (takes-from s Diffs may.0 i may.1.act.of_task (diff-takes (is_third_party s.mode) may.0.kind may.0 i (sym may.1.sent_by_mode)))
+          (takes-from s Diffs may.0 i may.1.act.of_task (diff-takes s.mode may.0.kind may.0 i (left-taken s.mode (sym may.1.sent_by_mode) (sym may.1.back_by_mode))))
           (delta-length m bytes (row * s.geometry.block))),
-      distinct-joined (held s i past) added old.1 (new-distinct s i command past e.stamp (Diff command opened cdb row bytes false dropped) g.1 may source),
+      distinct-joined (held s i past) added old.1 (new-distinct s i command past e.stamp (Diff command opened cdb row bytes false dropped false) g.1 may source),
     )
-holding-after s i e past m (Hold command opened cdb row bytes true names) q here b g may p =
+holding-after s i e past m (Hold command opened cdb row bytes true names back) q here b g may p =
     let old : HoldingAfter s i e past (held s i past) =
-    quiet-holding s i e past (Hold command opened cdb row bytes true names) q g (λ c name. (refl, refl, refl)) p in
+    quiet-holding s i e past (Hold command opened cdb row bytes true names back) q g (λ c name. (refl, refl, refl)) p in
     let source : (false || (command == command)) ≡ true = eq-eqb command command refl in
     let added : HeldBlocks = record { owner = command; row = row; bytes = bytes } in (
       all-joined (IsHeld s i (e ∷ past)) (held s i past) added old.0
-          (new-held s i command e past (Hold command opened cdb row bytes true names) Holds opened may.0 (length names) row (length bytes) cdb bytes q here g may source
+          (new-held s i command e past (Hold command opened cdb row bytes true names back) Holds opened may.0 (length names) row (length bytes) cdb bytes q here g may source
           (λ name. (refl, refl, refl)) may.1.act
-          (takes-from s Holds may.0 i may.1.act.of_task (hold-takes (is_third_party s.mode) may.0.kind may.0 i)) refl),
-      distinct-joined (held s i past) added old.1 (new-distinct s i command past e.stamp (Hold command opened cdb row bytes true names) g.1 may source),
+          (takes-from s Holds may.0 i may.1.act.of_task (hold-takes s.mode may.0.kind may.0 i)) refl),
+      distinct-joined (held s i past) added old.1 (new-distinct s i command past e.stamp (Hold command opened cdb row bytes true names back) g.1 may source),
     )
-holding-after s i e past m (Hold command opened cdb row bytes false names) q here b g may p =
-    quiet-holding s i e past (Hold command opened cdb row bytes false names) q g (λ c name. (refl, refl, refl)) p
+holding-after s i e past m (Hold command opened cdb row bytes false names back) q here b g may p =
+    quiet-holding s i e past (Hold command opened cdb row bytes false names back) q g (λ c name. (refl, refl, refl)) p
 holding-after s i e past m (Take command opened cdb row bytes) q here b g may p =
     subst (HoldingAfter s i e past)
     (sym (taken-without s i command past e.stamp (Take command opened cdb row bytes) opened may.0 0 row (length bytes) cdb bytes b g.1 may
@@ -531,7 +535,7 @@ owners-open s i past b g =
     all-owned (IsHeld s i past) (λ (h : HeldBlocks). is_open h.owner past ≡ true) (held s i past) (λ h owned p. holder-open s i past h g owned p) (holding s i past b g).each
 
 -- no row is held twice
-apart-rows : (block : ℕ) (x y : HeldBlocks) (t u : Task) (r : ℕ) → 1 ≤ block → x.row ≡ t.row → y.row ≡ u.row → length x.bytes ≡ t.count * block →
+pub apart-rows : (block : ℕ) (x y : HeldBlocks) (t u : Task) (r : ℕ) → 1 ≤ block → x.row ≡ t.row → y.row ≡ u.row → length x.bytes ≡ t.count * block →
     length y.bytes ≡ u.count * block → AreApart t u → shares_row block x y r ≡ false
 apart-rows block x y t u r b p q l m apart = elim (cases_lt r (x.row + t.count)) [
   | inl below ↦ left below apart
@@ -606,21 +610,22 @@ in-owners c x (y ∷ ys) h = first (nat_lt x y) (x == y) refl (λ q. in-owners c
       ]
     ]
 
-owner-named : (c : ℕ) (hs : List HeldBlocks) → has_owner c hs ≡ true → list_any (λ x. x == c) (owners_of hs) ≡ true
+pub owner-named : (c : ℕ) (hs : List HeldBlocks) → has_owner c hs ≡ true → list_any (λ x. x == c) (owners_of hs) ≡ true
 owner-named c [] h = h
 owner-named c (x ∷ hs) h = in-owners c x.owner (owners_of hs) (elim (or_cases (x.owner == c) (has_owner c hs) h) [
   | inl this ↦ or_left (x.owner == c) (list_any (λ y. y == c) (owners_of hs)) this
   | inr rest ↦ or_right (x.owner == c) (list_any (λ y. y == c) (owners_of hs)) (owner-named c hs rest)
 ])
 
-kept-after : (s : Setting) (i c : ℕ) (past : List Entry) (stamp : ℕ) (m : List ℕ) (event : Event) → 1 ≤ s.geometry.block → Grows s past →
+pub kept-after : (s : Setting) (i c : ℕ) (past : List Entry) (stamp : ℕ) (m : List ℕ) (event : Event) → 1 ≤ s.geometry.block → Grows s past →
     MayTarget s past stamp i event → releases c event ≡ false → has_owner c (held s i past) ≡ true → has_owner c (held_after s m event (held s i past)) ≡ true
-kept-after s i c past stamp m (Diff command opened cdb row bytes true dropped) b g may r h = h
-kept-after s i c past stamp m (Diff command opened cdb row bytes false dropped) b g may r h =
+kept-after s i c past stamp m (Diff command opened cdb row bytes true dropped back) b g may r h = h
+kept-after s i c past stamp m (Diff command opened cdb row bytes false dropped true) b g may r h = h
+kept-after s i c past stamp m (Diff command opened cdb row bytes false dropped false) b g may r h =
     has_owner-joined c (held s i past) _ ∙ or_left (has_owner c (held s i past)) _ h
-kept-after s i c past stamp m (Hold command opened cdb row bytes true names) b g may r h =
+kept-after s i c past stamp m (Hold command opened cdb row bytes true names back) b g may r h =
     has_owner-joined c (held s i past) _ ∙ or_left (has_owner c (held s i past)) _ h
-kept-after s i c past stamp m (Hold command opened cdb row bytes false names) b g may r h = h
+kept-after s i c past stamp m (Hold command opened cdb row bytes false names back) b g may r h = h
 kept-after s i c past stamp m (Take command opened cdb row bytes) b g may r h =
     ap (has_owner c) (taken-without s i command past stamp (Take command opened cdb row bytes) opened may.0 0 row (length bytes) cdb bytes b g may
     (eq-eqb command command refl) may.1.act may.1.taken (holding s i past b g))
@@ -636,14 +641,15 @@ kept-after s i c past stamp m (Fresh call swap) b g may r h =
     absurd (both_ways (is_gone i past) (holder-works s i c past g h) (fresh-gone s past stamp i call swap g may))
 kept-after s i c past stamp m _ b g may r h = h
 
-diff-holds : (s : Setting) (i c : ℕ) (past : List Entry) (stamp : ℕ) (m : List ℕ) (event : Event) → is_third_party s.mode ≡ false → MayTarget s past stamp i event →
+diff-holds : (s : Setting) (i c : ℕ) (past : List Entry) (stamp : ℕ) (m : List ℕ) (event : Event) → takes_delta s.mode ≡ true → MayTarget s past stamp i event →
     is_act Diffs c event ≡ true → has_owner c (held_after s m event (held s i past)) ≡ true
-diff-holds s i c past stamp m (Diff command opened cdb row bytes true dropped) mode may h = absurd (both_ways (is_third_party s.mode) mode (sym may.1.sent_by_mode))
-diff-holds s i c past stamp m (Diff command opened cdb row bytes false dropped) mode may h =
+diff-holds s i c past stamp m (Diff command opened cdb row bytes true dropped back) mode may h = absurd (both_ways (sends_delta s.mode) (taken-unsent s.mode mode) (sym may.1.sent_by_mode))
+diff-holds s i c past stamp m (Diff command opened cdb row bytes false dropped true) mode may h = absurd (both_ways (hands_delta_back s.mode) (taken-unhanded s.mode mode) (sym may.1.back_by_mode))
+diff-holds s i c past stamp m (Diff command opened cdb row bytes false dropped false) mode may h =
     has_owner-joined c (held s i past) _ ∙ or_right (has_owner c (held s i past)) _ (or_left (command == c) false h)
 diff-holds s i c past stamp m _ mode may h = absurd (false≢true h)
 
-delta-kept : (s : Setting) (i c : ℕ) (past : List Entry) → 1 ≤ s.geometry.block → is_third_party s.mode ≡ false → Grows s past →
+delta-kept : (s : Setting) (i c : ℕ) (past : List Entry) → 1 ≤ s.geometry.block → takes_delta s.mode ≡ true → Grows s past →
     some_at (i + 1) (is_act Diffs c) past ≡ true → some_at (i + 1) (releases c) past ≡ false → has_owner c (held s i past) ≡ true
 delta-kept s i c [] b mode g h r = absurd (false≢true h)
 delta-kept s i c (e ∷ past) b mode g h r = elim (some_at-cases (i + 1) (is_act Diffs c) e past h) [
@@ -695,7 +701,7 @@ released-lacks s i c past b g r h = by (held-of (IsHeld s i past) c (held s i pa
     by (x, (own, p)) (inr (inr lost)) = discarded-lacks s i c past g lost h
 
 -- a supervised delta is held exactly from its diff to its release
-pub delta-held : (s : Setting) (i c : ℕ) (past : List Entry) → 1 ≤ s.geometry.block → is_third_party s.mode ≡ false → Grows s past →
+pub delta-held : (s : Setting) (i c : ℕ) (past : List Entry) → 1 ≤ s.geometry.block → takes_delta s.mode ≡ true → Grows s past →
     some_at (i + 1) (is_act Diffs c) past ≡ true → has_owner c (held s i past) ≡ not (some_at (i + 1) (releases c) past)
 delta-held s i c past b mode g h = elim (cases_Bool (some_at (i + 1) (releases c) past)) [
   | inl released ↦ lacking released ∙ sym (ap not released)

@@ -3,6 +3,7 @@ use Rattle.std.specs.Prelude.{◌≡◌, ◌==◌, ◌&&◌, ◌||◌, ◌⊎◌
 use Rattle.std.specs.List.{list_any}
 use Rattle.std.proofs.Common.{refl, ap, sym, ◌∙◌, cond, subst, inl, inr}
 use Rattle.std.proofs.lemmas.Bool.{eqb-true, cases_eq, cases_Bool, and_parts, or_left, or_right, or_cases, both_ways, false≢true}
+use Rattle.stripe_layout.specs.declared.mode.Mode.{Mode}
 use Rattle.sbc_cdbs.specs.declared.descriptor.Cdb.{Cdb}
 use Rattle.array_journal.specs.declared.at.At.{At}
 use Rattle.array_journal.specs.declared.entry.Entry.{Entry}
@@ -15,7 +16,7 @@ use Rattle.array_journal.specs.declared.task.Kind.TheVariants.{Read, Update, Dat
 use Rattle.array_journal.specs.declared.task.Task.{Task}
 use Rattle.array_journal.specs.Entries.{name_of, some_at}
 use Rattle.array_journal.specs.Commands.{task_of}
-use Rattle.array_journal.specs.Acts.{Act, Fetches, Puts, Diffs, Takes, Folds, Holds, acts_at, has_act, is_third_party, is_act}
+use Rattle.array_journal.specs.Acts.{Act, Fetches, Puts, Diffs, Takes, Folds, Holds, acts_at, has_act, is_act}
 use Rattle.array_journal.specs.Media.{media, held, held_after, HeldBlocks, holds_rows, rest_of, take_rows, rows_held, with_owner, owners_of}
 use Rattle.array_journal.specs.Lives.{loss_after, loss_of, is_gone}
 use Rattle.array_journal.specs.May.{MayAct, MayTarget, discards}
@@ -39,13 +40,13 @@ act-asks s past stamp i c Fetches (Fetch command opened cdb row bytes) m h =
     at_command s past stamp i command c Fetches h (acts opened m.0 0 row (length bytes) cdb m.1.act)
 act-asks s past stamp i c Puts (Put command opened cdb row bytes names) m h =
     at_command s past stamp i command c Puts h (acts opened m.0 (length names) row (length bytes) cdb m.1.act)
-act-asks s past stamp i c Diffs (Diff command opened cdb row bytes sent dropped) m h =
+act-asks s past stamp i c Diffs (Diff command opened cdb row bytes sent dropped back) m h =
     at_command s past stamp i command c Diffs h (acts opened m.0 0 row (length bytes) cdb m.1.act)
 act-asks s past stamp i c Takes (Take command opened cdb row bytes) m h =
     at_command s past stamp i command c Takes h (acts opened m.0 0 row (length bytes) cdb m.1.act)
 act-asks s past stamp i c Folds (Fold command opened cdb row bytes names) m h =
     at_command s past stamp i command c Folds h (acts opened m.0 0 row (length bytes) cdb m.1.1.act)
-act-asks s past stamp i c Holds (Hold command opened cdb row bytes kept names) m h =
+act-asks s past stamp i c Holds (Hold command opened cdb row bytes kept names back) m h =
     at_command s past stamp i command c Holds h (acts opened m.0 (length names) row (length bytes) cdb m.1.act)
 act-asks s past stamp i c Fetches _ m h = absurd (false≢true h)
 act-asks s past stamp i c Puts _ m h = absurd (false≢true h)
@@ -79,22 +80,22 @@ pub act-works : (s : Setting) (past : List Entry) (stamp i c : ℕ) (act : Act) 
 act-works s past stamp i c act (acts opened task sources row len cdb m) = m.not_gone
 
 -- no command both writes a delta and gathers
-diff_hold : (third : Bool) (kind : Kind) (task : Task) (i : ℕ) → acts_at third Diffs kind task i ≡ true → acts_at third Holds kind task i ≡ true → ⊥
-diff_hold third Read task i h k = false≢true h
-diff_hold third Update task i h k = false≢true k
-diff_hold third DataOnly task i h k = false≢true h
-diff_hold third DegradedRead task i h k = false≢true h
-diff_hold third DegradedWrite task i h k = false≢true h
-diff_hold third Rebuild task i h k = false≢true h
-diff_hold third Resync task i h k = false≢true h
+diff_hold : (mode : Mode) (kind : Kind) (task : Task) (i : ℕ) → acts_at mode Diffs kind task i ≡ true → acts_at mode Holds kind task i ≡ true → ⊥
+diff_hold mode Read task i h k = false≢true h
+diff_hold mode Update task i h k = false≢true k
+diff_hold mode DataOnly task i h k = false≢true h
+diff_hold mode DegradedRead task i h k = false≢true h
+diff_hold mode DegradedWrite task i h k = false≢true h
+diff_hold mode Rebuild task i h k = false≢true h
+diff_hold mode Resync task i h k = false≢true h
 
 pub never-both : (s : Setting) (i c : ℕ) (past : List Entry) → HasAct s past i c Diffs → HasAct s past i c Holds → ⊥
 never-both s i c past (task, (q, a)) (other, (r, b)) =
     let same : task ≡ other = cc in
     let b_there : has_act s Holds task i ≡ true = subst (λ (t : Task). has_act s Holds t i ≡ true) (sym same) b in
-    diff_hold (is_third_party s.mode) task.kind task i
-    (and_parts (nat_lt i s.geometry.targets) (acts_at (is_third_party s.mode) Diffs task.kind task i) a).1
-    (and_parts (nat_lt i s.geometry.targets) (acts_at (is_third_party s.mode) Holds task.kind task i) b_there).1
+    diff_hold s.mode task.kind task i
+    (and_parts (nat_lt i s.geometry.targets) (acts_at s.mode Diffs task.kind task i) a).1
+    (and_parts (nat_lt i s.geometry.targets) (acts_at s.mode Holds task.kind task i) b_there).1
 
 -- owners of parts of what was held
 pub has_owner-joined : (c : ℕ) (xs ys : List HeldBlocks) → has_owner c (xs ++ ys) ≡ (has_owner c xs || has_owner c ys)
@@ -196,10 +197,10 @@ empty-after : (s : Setting) (past : List Entry) (stamp i : ℕ) (at : At) (m : L
     (is_gone i past ≡ true → held s i past ≡ []) → is_some (loss_after at event (loss_of i past)) ≡ true → held_after s m event (held s i past) ≡ []
 empty-after s past stamp i at m (Fetch command opened cdb row bytes) g q old h = absurd (both_ways (is_gone i past) q.1.act.not_gone h)
 empty-after s past stamp i at m (Put command opened cdb row bytes names) g q old h = absurd (both_ways (is_gone i past) q.1.act.not_gone h)
-empty-after s past stamp i at m (Diff command opened cdb row bytes sent dropped) g q old h = absurd (both_ways (is_gone i past) q.1.act.not_gone h)
+empty-after s past stamp i at m (Diff command opened cdb row bytes sent dropped back) g q old h = absurd (both_ways (is_gone i past) q.1.act.not_gone h)
 empty-after s past stamp i at m (Take command opened cdb row bytes) g q old h = absurd (both_ways (is_gone i past) q.1.act.not_gone h)
 empty-after s past stamp i at m (Fold command opened cdb row bytes names) g q old h = absurd (both_ways (is_gone i past) q.1.1.act.not_gone h)
-empty-after s past stamp i at m (Hold command opened cdb row bytes kept names) g q old h = absurd (both_ways (is_gone i past) q.1.act.not_gone h)
+empty-after s past stamp i at m (Hold command opened cdb row bytes kept names back) g q old h = absurd (both_ways (is_gone i past) q.1.act.not_gone h)
 empty-after s past stamp i at m (Shut command opened acted lost) g q old h = ap (filter (λ (x : HeldBlocks). not (x.owner == command))) (old h)
 empty-after s past stamp i at m (Gone life call commands) g q old h = refl
 empty-after s past stamp i at m (Wiped Buffers call commands) g q old h = refl
@@ -229,19 +230,20 @@ has_source-more i c e past h = elim (or_cases (some_at (i + 1) (is_act Diffs c) 
 -- the owner is new, by a diff or a hold, or it was one before
 owner-after : (s : Setting) (c : ℕ) (m : List ℕ) (event : Event) (old : List HeldBlocks) → has_owner c (held_after s m event old) ≡ true →
     ((is_act Diffs c event || is_act Holds c event) ≡ true) ⊎ (has_owner c old ≡ true)
-owner-after s c m (Diff command opened cdb row bytes true dropped) old h = inr h
-owner-after s c m (Diff command opened cdb row bytes false dropped) old h = elim (or_cases (has_owner c old) _ (sym (has_owner-joined c old _) ∙ h)) [
+owner-after s c m (Diff command opened cdb row bytes true dropped back) old h = inr h
+owner-after s c m (Diff command opened cdb row bytes false dropped true) old h = inr h
+owner-after s c m (Diff command opened cdb row bytes false dropped false) old h = elim (or_cases (has_owner c old) _ (sym (has_owner-joined c old _) ∙ h)) [
   | inl older ↦ inr older
   | inr new ↦ inl new
 ]
-owner-after s c m (Hold command opened cdb row bytes true names) old h = elim (or_cases (has_owner c old) _ (sym (has_owner-joined c old _) ∙ h)) [
+owner-after s c m (Hold command opened cdb row bytes true names back) old h = elim (or_cases (has_owner c old) _ (sym (has_owner-joined c old _) ∙ h)) [
   | inl older ↦ inr older
   | inr new ↦ elim (or_cases (command == c) false new) [
     | inl this ↦ inl this
     | inr none ↦ absurd (false≢true none)
   ]
 ]
-owner-after s c m (Hold command opened cdb row bytes false names) old h = inr h
+owner-after s c m (Hold command opened cdb row bytes false names back) old h = inr h
 owner-after s c m (Take command opened cdb row bytes) old h = inr (taken-owner c s.geometry.block row (length bytes) old h)
 owner-after s c m (Shut command opened acted lost) old h = inr (kept-owner c (λ (x : HeldBlocks). not (x.owner == command)) old h)
 owner-after s c m (Gone life call commands) old h = absurd (false≢true h)

@@ -5,6 +5,7 @@ use Rattle.std.proofs.lemmas.Bool.{cases_eq, eq-eqb, eqb-true, and_parts, false�
 use Rattle.std.proofs.lemmas.List.{length-replicate}
 use Rattle.blocks_core.specs.Xor.{xor}
 use Rattle.blocks_core.proofs.XorLaws.{length-xor}
+use Rattle.stripe_layout.specs.declared.mode.Mode.{Mode}
 use Rattle.stripe_layout.specs.Layout.{parity_of, capacity_of, rows_of, lba_at}
 use Rattle.sbc_cdbs.specs.declared.descriptor.Cdb.{Cdb}
 use Rattle.array_journal.specs.declared.at.At.{At}
@@ -17,11 +18,12 @@ use Rattle.array_journal.specs.declared.task.Kind.TheVariants.{Read, Update, Dat
 use Rattle.array_journal.specs.declared.task.Task.{Task}
 use Rattle.array_journal.specs.Lists.{slice, put, block_at}
 use Rattle.array_journal.specs.Commands.{is_open, task_of}
-use Rattle.array_journal.specs.Acts.{Act, Puts, Diffs, Folds, acts_at, has_act, is_third_party, is_act, task_bytes}
+use Rattle.array_journal.specs.Acts.{Act, Puts, Diffs, Folds, acts_at, has_act, is_act, task_bytes}
 use Rattle.array_journal.specs.Media.{media, medium_after}
 use Rattle.array_journal.specs.Host.{unit_at, task_lba, is_read, is_degraded_read, is_put_write, read_item, wrote_item, told_by, teller, teller_task, host, plain}
 use Rattle.array_journal.specs.May.{MayAct, MayAt, MayTarget, IsTask, IsTaskOfKind}
 use Rattle.array_journal.specs.Run.{IsSetting, Grows, IsRowOf, sectors}
+pub use Rattle.array_journal.specs.Known.{known_in, known}
 use Rattle.array_journal.proofs.DeltaLaws.{differs-update}
 use Rattle.array_journal.proofs.Steps.{media-here, media-else}
 use Rattle.array_journal.proofs.Standing.{may-here}
@@ -32,21 +34,13 @@ use Rattle.array_journal.proofs.TaskPlaces.{length-slice, length-put, rows-fit_b
 use Rattle.array_journal.proofs.BlockLists.{length-block_at, block_at-put_in, block_at-put_out}
 use Rattle.array_journal.proofs.LayoutLaws.{IsBeside, IsPlaced, IsPlaced-task, task_unit, lba_at-in, lba_at-other_unit, lba_at-other_row, lba_at-below, lba-fit_bytes, target_of-unit_at, unit_at-below, parity_of-below, row-below, Falls, Within, Beside, row_falls}
 
--- the block of target i on a row of a stripe, as some sectors have it
-abbrev pub known_in : Setting → List ℕ → ℕ → ℕ → ℕ → List ℕ
-known_in s bytes stripe i r = block_at s.geometry.block bytes (lba_at s.geometry stripe (unit_at (parity_of s.geometry stripe) i) r)
-
--- and as the hosts know it
-abbrev pub known : Setting → List Entry → ℕ → ℕ → ℕ → List ℕ
-known s past stripe i r = known_in s (sectors s.geometry past) stripe i r
-
 -- the block that stands on a row of a target
 abbrev pub stands : Setting → List Entry → ℕ → ℕ → List ℕ
 stands s past i r = block_at s.geometry.block (media s i past) r
 
 -- the kind's act there
-pub acts-there : (s : Setting) (act : Act) (task : Task) (i : ℕ) → has_act s act task i ≡ true → acts_at (is_third_party s.mode) act task.kind task i ≡ true
-acts-there s act task i h = (and_parts (nat_lt i s.geometry.targets) (acts_at (is_third_party s.mode) act task.kind task i) h).1
+pub acts-there : (s : Setting) (act : Act) (task : Task) (i : ℕ) → has_act s act task i ≡ true → acts_at s.mode act task.kind task i ≡ true
+acts-there s act task i h = (and_parts (nat_lt i s.geometry.targets) (acts_at s.mode act task.kind task i) h).1
 
 pub act_task : (s : Setting) (past : List Entry) (stamp i c : ℕ) (opened : At) (cdb : Cdb) (row len sources : ℕ) (task : Task) (act : Act) → Grows s past →
     MayAct s past stamp i c opened cdb row len sources task act → task_of c past ≡ Some task
@@ -64,17 +58,17 @@ pub data PutsBy (task : Task) (i : ℕ) : Type 0 where
   puts_unit : task.kind ≡ Rebuild → i ≡ task.target → PutsBy task i
   puts_parity : task.kind ≡ Resync → i ≡ task.parity → PutsBy task i
 
-puts-kind : (third : Bool) (kind : Kind) (task : Task) (i : ℕ) → task.kind ≡ kind → acts_at third Puts kind task i ≡ true → PutsBy task i
-puts-kind third DataOnly task i k h = puts_data k (eqb-true i task.target h)
-puts-kind third DegradedWrite task i k h = puts_degraded k (eqb-true i task.parity h)
-puts-kind third Rebuild task i k h = puts_unit k (eqb-true i task.target h)
-puts-kind third Resync task i k h = puts_parity k (eqb-true i task.parity h)
-puts-kind third Read task i k h = absurd (false≢true h)
-puts-kind third Update task i k h = absurd (false≢true h)
-puts-kind third DegradedRead task i k h = absurd (false≢true h)
+puts-kind : (mode : Mode) (kind : Kind) (task : Task) (i : ℕ) → task.kind ≡ kind → acts_at mode Puts kind task i ≡ true → PutsBy task i
+puts-kind mode DataOnly task i k h = puts_data k (eqb-true i task.target h)
+puts-kind mode DegradedWrite task i k h = puts_degraded k (eqb-true i task.parity h)
+puts-kind mode Rebuild task i k h = puts_unit k (eqb-true i task.target h)
+puts-kind mode Resync task i k h = puts_parity k (eqb-true i task.parity h)
+puts-kind mode Read task i k h = absurd (false≢true h)
+puts-kind mode Update task i k h = absurd (false≢true h)
+puts-kind mode DegradedRead task i k h = absurd (false≢true h)
 
 pub puts-by : (s : Setting) (task : Task) (i : ℕ) → has_act s Puts task i ≡ true → PutsBy task i
-puts-by s task i h = puts-kind (is_third_party s.mode) task.kind task i refl (acts-there s Puts task i h)
+puts-by s task i h = puts-kind s.mode task.kind task i refl (acts-there s Puts task i h)
 
 -- tasks of writing for a host
 pub writes-size : (s : Setting) (task : Task) → IsTask s task → (task.kind ≡ Update) ⊎ ((task.kind ≡ DataOnly) ⊎ (task.kind ≡ DegradedWrite)) →
@@ -103,7 +97,7 @@ size-after : (s : Setting) (i : ℕ) (past : List Entry) (stamp : ℕ) (event : 
     length old ≡ rows_of s.geometry * s.geometry.block → length (medium_after s event old) ≡ rows_of s.geometry * s.geometry.block
 size-after s i past stamp (Put command opened cdb row bytes names) old g m whole =
     put-size s old bytes m.0 row (act_sound s past stamp i command opened cdb row (length bytes) (length names) m.0 Puts g m.1.act) m.1.act.at_row m.1.act.whole whole
-size-after s i past stamp (Diff command opened cdb row bytes sent dropped) old g m whole =
+size-after s i past stamp (Diff command opened cdb row bytes sent dropped back) old g m whole =
     put-size s old bytes m.0 row (act_sound s past stamp i command opened cdb row (length bytes) 0 m.0 Diffs g m.1.act) m.1.act.at_row m.1.act.whole whole
 size-after s i past stamp (Fold command opened cdb row bytes names) old g m whole =
     let sound : IsTask s m.0 = act_sound s past stamp i command opened cdb row (length bytes) 0 m.0 Folds g m.1.1.act in
@@ -212,21 +206,21 @@ put-step s past stamp i lock command opened cdb row bytes names task g m here a 
     tells_none (put-silent s past stamp i command opened cdb row bytes names task g a (ap is_put_write k))
 
 -- a diff tells the write of its update
-pub diff-write : (s : Setting) (past : List Entry) (stamp i lock command : ℕ) (opened : At) (cdb : Cdb) (row : ℕ) (bytes : List ℕ) (sent dropped : Bool) (task : Task) → Grows s past →
-    MayTarget s past stamp i (Diff command opened cdb row bytes sent dropped) → lock ≡ i + 1 →
-    MayAct s past stamp i command opened cdb row (length bytes) 0 task Diffs → IsWrite s past command task lock (Diff command opened cdb row bytes sent dropped)
-diff-write s past stamp i lock command opened cdb row bytes sent dropped task g m here a =
+pub diff-write : (s : Setting) (past : List Entry) (stamp i lock command : ℕ) (opened : At) (cdb : Cdb) (row : ℕ) (bytes : List ℕ) (sent dropped back : Bool) (task : Task) → Grows s past →
+    MayTarget s past stamp i (Diff command opened cdb row bytes sent dropped back) → lock ≡ i + 1 →
+    MayAct s past stamp i command opened cdb row (length bytes) 0 task Diffs → IsWrite s past command task lock (Diff command opened cdb row bytes sent dropped back)
+diff-write s past stamp i lock command opened cdb row bytes sent dropped back task g m here a =
     let its : task_of command past ≡ Some task = act_task s past stamp i command opened cdb row (length bytes) 0 task Diffs g a in
     let sound : IsTask s task = act_sound s past stamp i command opened cdb row (length bytes) 0 task Diffs g a in
     let by : (task.kind ≡ Update) × (i ≡ task.target) = differs-update s task i a.of_task in
     record {
       its_task = its;
-      opened = act-open s past stamp i command Diffs (Diff command opened cdb row bytes sent dropped) g m (eq-eqb command command refl);
+      opened = act-open s past stamp i command Diffs (Diff command opened cdb row bytes sent dropped back) g m (eq-eqb command command refl);
       sound = sound;
       not_parity = (writes-size s task sound (inl by.0)).0;
       size = (writes-size s task sound (inl by.0)).1;
       how = by_diff by.0 (here ∙ ap (λ (x : ℕ). x + 1) by.1) (eq-eqb command command refl);
-      written = ap (λ (o : Option Task). plain s.geometry (told_by s.geometry (Diff command opened cdb row bytes sent dropped) o ++ host s.geometry past)) its;
+      written = ap (λ (o : Option Task). plain s.geometry (told_by s.geometry (Diff command opened cdb row bytes sent dropped back) o ++ host s.geometry past)) its;
     }
 
 suc-lock : (i : ℕ) → suc i ≡ i + 1
@@ -236,13 +230,13 @@ pub sector-step : (s : Setting) (past : List Entry) (stamp lock : ℕ) (event : 
 sector-step s past stamp zero (Close command done names cause bytes) g m = tells_none (close-silent s past command done names cause bytes (task_of command past))
 sector-step s past stamp zero (Fetch command opened cdb row bytes) g m = absurd m
 sector-step s past stamp zero (Put command opened cdb row bytes names) g m = absurd m
-sector-step s past stamp zero (Diff command opened cdb row bytes sent dropped) g m = absurd m
+sector-step s past stamp zero (Diff command opened cdb row bytes sent dropped back) g m = absurd m
 sector-step s past stamp zero _ g m = tells_none refl
 sector-step s past stamp (suc i) (Fetch command opened cdb row bytes) g m = tells_none (fetch-silent s past command opened cdb row bytes (task_of command past))
 sector-step s past stamp (suc i) (Put command opened cdb row bytes names) g m =
     put-step s past stamp i (suc i) command opened cdb row bytes names m.1.0 g m.1 (suc-lock i) m.1.1.act (puts-by s m.1.0 i m.1.1.act.of_task)
-sector-step s past stamp (suc i) (Diff command opened cdb row bytes sent dropped) g m =
-    tells_write command m.1.0 (diff-write s past stamp i (suc i) command opened cdb row bytes sent dropped m.1.0 g m.1 (suc-lock i) m.1.1.act)
+sector-step s past stamp (suc i) (Diff command opened cdb row bytes sent dropped back) g m =
+    tells_write command m.1.0 (diff-write s past stamp i (suc i) command opened cdb row bytes sent dropped back m.1.0 g m.1 (suc-lock i) m.1.1.act)
 sector-step s past stamp (suc i) (Close command done names cause bytes) g m = absurd m.1
 sector-step s past stamp (suc i) _ g m = tells_none refl
 

@@ -43,7 +43,7 @@ count_at-lane k test past =
     step true t n = refl
     step false t n = refl
 
-media-lane : (s : Setting) (i : ℕ) (past : List Entry) → media s i past ≡ media s i (lane (i + 1) past)
+pub media-lane : (s : Setting) (i : ℕ) (past : List Entry) → media s i past ≡ media s i (lane (i + 1) past)
 media-lane s i past = lane-fold (i + 1) (media s i) (λ e old. medium_after s e.event old) (λ e rest. refl) past
 
 -- the medium of a target with what it holds
@@ -66,13 +66,13 @@ stored-lane s i past =
     step true m n h l = refl
     step false m n h l = refl
 
-held-lane : (s : Setting) (i : ℕ) (past : List Entry) → held s i past ≡ held s i (lane (i + 1) past)
+pub held-lane : (s : Setting) (i : ℕ) (past : List Entry) → held s i past ≡ held s i (lane (i + 1) past)
 held-lane s i past = ap (λ (x : Stored). x.blocks) (stored-lane s i past)
 
-drops-lane : (i : ℕ) (past : List Entry) → drops i past ≡ drops i (lane (i + 1) past)
+pub drops-lane : (i : ℕ) (past : List Entry) → drops i past ≡ drops i (lane (i + 1) past)
 drops-lane i past = lane-fold (i + 1) (drops i) (λ e old. drops_after e.event old) (λ e rest. refl) past
 
-loss_of-lane : (i : ℕ) (past : List Entry) → loss_of i past ≡ loss_of i (lane (i + 1) past)
+pub loss_of-lane : (i : ℕ) (past : List Entry) → loss_of i past ≡ loss_of i (lane (i + 1) past)
 loss_of-lane i past = lane-fold (i + 1) (loss_of i) (λ e old. loss_after (name_of e) e.event old) (λ e rest. refl) past
 
 pub own-lane : (s : Setting) (i : ℕ) (past : List Entry) → OwnLane s i past
@@ -97,7 +97,7 @@ task_of-lane c past =
     step true given old = refl
     step false given old = refl
 
-is_unfitted-lane : (i : ℕ) (past : List Entry) → is_unfitted i past ≡ is_unfitted i (lane 0 past)
+pub is_unfitted-lane : (i : ℕ) (past : List Entry) → is_unfitted i past ≡ is_unfitted i (lane 0 past)
 is_unfitted-lane i past =
     lane-fold 0 (is_unfitted i) (λ e old. cond (is_note_of i e.event) true (cond (is_swap_of i e.event) false old))
     (λ e rest. step (e.lock == 0) (is_note_of i e.event) (is_swap_of i e.event) (is_unfitted i rest)) past
@@ -114,7 +114,7 @@ listed_after-lane past stripe (Close command done names cause bytes) old =
     ap (λ (t : Option Task). cond (done && renews_parity stripe t) None old) (task_of-lane command past)
 listed_after-lane past stripe _ old = refl
 
-listed_for-lane : (stripe : ℕ) (past : List Entry) → listed_for stripe past ≡ listed_for stripe (lane 0 past)
+pub listed_for-lane : (stripe : ℕ) (past : List Entry) → listed_for stripe past ≡ listed_for stripe (lane 0 past)
 listed_for-lane stripe [] = refl
 listed_for-lane stripe (e ∷ past) = choose (e.lock == 0) refl (listed_for-lane stripe past)
   where

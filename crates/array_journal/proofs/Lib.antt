@@ -42,6 +42,7 @@ pub mod PartsLaws
 pub mod TriedRuns
 pub mod TriedBars
 pub mod WrongBars
+pub mod ReadbackRuns
 pub mod TriedPasts
 pub mod ExampleRuns
 pub mod CalmServed
@@ -60,3 +61,15 @@ pub mod KeptRuns
 pub mod NamedReads
 pub mod DegradedReads
 pub mod ReadsRight
+pub mod BookLanes
+pub mod WiderPasts
+pub mod JoinedParts
+pub mod WaitingSlots
+pub mod ExactlyHeld
+pub mod WindowStart
+pub mod CallLaws
+pub mod FoundRows
+pub mod RoomLaws
+pub mod ServedActs
+pub mod JoinedViews
+pub mod GuardedRuns

@@ -12,7 +12,7 @@ use Rattle.std.proofs.lemmas.Map.Keys.{IsDistinct-IsPermutation, apart_from_dist
 use Rattle.array_journal.specs.declared.at.At.{At}
 use Rattle.array_journal.specs.declared.entry.Entry.{Entry}
 use Rattle.array_journal.specs.Entries.{name_of, same_at, at_lt}
-use Rattle.array_journal.specs.Merge.{joined, Rises, HaveOwnNames, AreOfLocks}
+use Rattle.array_journal.specs.Merge.{joined, Rises, NeverFalls, HaveOwnNames, AreOfLocks}
 
 -- the order in which a sort by stamp and lock leaves two entries
 abbrev pub goes_before : Entry → Entry → Bool
@@ -28,6 +28,23 @@ rise_from : (es : List Entry) →
 rise_from [] h = tt
 rise_from (a ∷ []) h = tt
 rise_from (a ∷ b ∷ es) h = (h 0 a (omega arith), rise_from (b ∷ es) (λ k d lt. h (suc k) d (omega arith)))
+
+-- and so do they where none comes before the one in front of it
+stay_from : (es : List Entry) →
+    ((k : ℕ) (d : Entry) → suc k < length es → at_lt (name_of (get_or es (suc k) d)) (name_of (get_or es k d)) ≡ false) → NeverFalls es
+stay_from [] h = tt
+stay_from (a ∷ []) h = tt
+stay_from (a ∷ b ∷ es) h = (h 0 a (omega arith), stay_from (b ∷ es) (λ k d lt. h (suc k) d (omega arith)))
+
+in_order : (s t k l : ℕ) → is_lt (ordering_then (nat_cmp t s) (nat_cmp l k)) ≡ false → (nat_lt t s || ((t == s) && nat_lt l k)) ≡ false
+in_order s t k l h = grind (arith, nat_tests)
+
+sorted-next : (ys : List Entry) (k : ℕ) (d : Entry) → IsSortedBy goes_before ys → suc k < length ys → goes_before (get_or ys (suc k) d) (get_or ys k d) ≡ false
+sorted-next ys k d sorted lt = rw add-one at (sorted k d (omega arith) (omega arith))
+
+pub sorted-stays : (ys : List Entry) → IsSortedBy goes_before ys → NeverFalls ys
+sorted-stays ys sorted =
+    stay_from ys (λ k d lt. in_order (get_or ys k d).stamp (get_or ys (suc k) d).stamp (get_or ys k d).lock (get_or ys (suc k) d).lock (sorted-next ys k d sorted lt))
 
 eqb-flips : (m n : ℕ) → (m == n) ≡ (n == m)
 eqb-flips m n = grind (arith, nat_tests)
@@ -47,12 +64,9 @@ sorted-rises xs ys perm sorted own = rise_from ys next
         ∙ ap (λ n. same_at (get_or (map name_of ys) k (name_of d)) n) (sym (get_or-map name_of ys (suc k) d))
         ∙ apart_from_distinct same_at (map name_of ys) k (suc k) (name_of d) distinct (omega arith) (simp length-map lt)
 
-    ordered : (k : ℕ) (d : Entry) → suc k < length ys → goes_before (get_or ys (suc k) d) (get_or ys k d) ≡ false
-    ordered k d lt = rw add-one at (sorted k d (omega arith) (omega arith))
-
     next : (k : ℕ) (d : Entry) → suc k < length ys → at_lt (name_of (get_or ys k d)) (name_of (get_or ys (suc k) d)) ≡ true
     next k d lt =
-        next_in_order (get_or ys k d).stamp (get_or ys (suc k) d).stamp (get_or ys k d).lock (get_or ys (suc k) d).lock (ordered k d lt) (apart k d lt)
+        next_in_order (get_or ys k d).stamp (get_or ys (suc k) d).stamp (get_or ys k d).lock (get_or ys (suc k) d).lock (sorted-next ys k d sorted lt) (apart k d lt)
 
 -- an entry's name differs from those of entries of later locks
 differ_above : (a : Entry) (lock : ℕ) (others : List Entry) → a.lock ≡ lock → AllByRecursion (λ (e : Entry). lock < e.lock) others →

@@ -4,6 +4,7 @@ use Rattle.std.specs.Prelude.{◌≡◌, ◌≢◌, ◌==◌, ◌&&◌, ◌<◌,
 use Rattle.std.specs.List.{AllByRecursion}
 use Rattle.std.proofs.Common.{refl, ap, sym, ◌∙◌, cond, arith, subst, inl, inr}
 use Rattle.std.proofs.lemmas.Bool.{eq-eqb, eqb-true, cases_eq, cases_Bool, and_from, and_parts, both_ways, not-true, false≢true, cond-true, cond_both}
+use Rattle.stripe_layout.specs.declared.mode.Mode.{Mode}
 use Rattle.stripe_layout.specs.Layout.{parity_of}
 use Rattle.sbc_cdbs.specs.declared.descriptor.Cdb.{Cdb}
 use Rattle.array_journal.specs.declared.at.At.{At}
@@ -17,7 +18,7 @@ use Rattle.array_journal.specs.declared.task.Task.{Task}
 use Rattle.array_journal.specs.Lists.{block_at}
 use Rattle.array_journal.specs.Entries.{some_at}
 use Rattle.array_journal.specs.Commands.{opens_command, is_open, task_of, is_shared}
-use Rattle.array_journal.specs.Acts.{Act, Puts, Diffs, Folds, acts_at, has_act, is_third_party, is_act, task_bytes}
+use Rattle.array_journal.specs.Acts.{Act, Puts, Diffs, Folds, acts_at, has_act, is_act, task_bytes}
 use Rattle.array_journal.specs.Deltas.{Delta, covers, delta_of, has_acted, puts_row, with_delta, outstanding_in}
 use Rattle.array_journal.specs.May.{MayTarget, IsTask, IsTaskOfKind}
 use Rattle.array_journal.specs.Run.{Grows, IsSetting, IsRowOf}
@@ -124,11 +125,11 @@ item-more s whole e past r d g p = record {
 }
 
 -- the delta of a new diff
-new-item : (s : Setting) (whole : List Entry) (i : ℕ) (e : Entry) (past : List Entry) (r command : ℕ) (opened : At) (cdb : Cdb) (row : ℕ) (bytes : List ℕ) (sent dropped : Bool) →
-    Grows s (e ∷ past) → e.lock ≡ i + 1 → e.event ≡ Diff command opened cdb row bytes sent dropped → covers s.geometry.block row (length bytes) r ≡ true →
+new-item : (s : Setting) (whole : List Entry) (i : ℕ) (e : Entry) (past : List Entry) (r command : ℕ) (opened : At) (cdb : Cdb) (row : ℕ) (bytes : List ℕ) (sent dropped back : Bool) →
+    Grows s (e ∷ past) → e.lock ≡ i + 1 → e.event ≡ Diff command opened cdb row bytes sent dropped back → covers s.geometry.block row (length bytes) r ≡ true →
     has_acted Folds command whole ≡ false →
     IsItem s whole (e ∷ past) r (record { command = command; block = block_at s.geometry.block (delta_of s i past row bytes) (r - row) })
-new-item s whole i e past r command opened cdb row bytes sent dropped g here q hit unfolded = record {
+new-item s whole i e past r command opened cdb row bytes sent dropped back g here q hit unfolded = record {
   task = m.0;
   its_task = task_of-more s command e past m.0 g.1 g.0.1 (named-task s opened command m.0 past g.1 m.1.act.in_book m.1.act.opening.0);
   update = u.0;
@@ -141,7 +142,7 @@ new-item s whole i e past r command opened cdb row bytes sent dropped g here q h
       (sym (ap (λ (n : ℕ). delta_made s n command (e ∷ past)) (sym u.1) ∙ delta_made-newest s i command e past here acts_so ∙ ap (diff_delta s i past) q));
 }
   where
-    m : MayTarget s past e.stamp i (Diff command opened cdb row bytes sent dropped)
+    m : MayTarget s past e.stamp i (Diff command opened cdb row bytes sent dropped back)
     m = subst (λ (x : Event). MayTarget s past e.stamp i x) q (may-here s past e.stamp e.lock i e.event here g.0.1.1)
 
     u : (m.0.kind ≡ Update) × (i ≡ m.0.target)
@@ -153,7 +154,7 @@ new-item s whole i e past r command opened cdb row bytes sent dropped g here q h
 with-items : (s : Setting) (whole : List Entry) (i : ℕ) (e : Entry) (past : List Entry) (r : ℕ) (event : Event) (older : List Delta) →
     Grows s (e ∷ past) → e.lock ≡ i + 1 → e.event ≡ event → AllByRecursion (IsItem s whole (e ∷ past) r) older →
     AllByRecursion (IsItem s whole (e ∷ past) r) (with_delta s whole i past r event older)
-with-items s whole i e past r (Diff command opened cdb row bytes sent dropped) older g here q p =
+with-items s whole i e past r (Diff command opened cdb row bytes sent dropped back) older g here q p =
     cond_both (covers s.geometry.block row (length bytes) r && not (has_acted Folds command whole))
     (record { command = command; block = block_at s.geometry.block (delta_of s i past row bytes) (r - row) } ∷ older) older
     (λ (l : List Delta). AllByRecursion (IsItem s whole (e ∷ past) r) l)
@@ -162,7 +163,7 @@ with-items s whole i e past r (Diff command opened cdb row bytes sent dropped) o
     added : (covers s.geometry.block row (length bytes) r ≡ true) × (not (has_acted Folds command whole) ≡ true) →
         AllByRecursion (IsItem s whole (e ∷ past) r) (record { command = command; block = block_at s.geometry.block (delta_of s i past row bytes) (r - row) } ∷ older)
     added both =
-        (new-item s whole i e past r command opened cdb row bytes sent dropped g here q both.0 (not-true (has_acted Folds command whole) both.1), p)
+        (new-item s whole i e past r command opened cdb row bytes sent dropped back g here q both.0 (not-true (has_acted Folds command whole) both.1), p)
 with-items s whole i e past r _ older g here q p = p
 
 -- each outstanding delta is so
@@ -201,14 +202,14 @@ task-covers s task stripe r set sound at hit =
     sym (covered-stripe s task stripe r sound at range.0 range.1)
 
 -- what puts is a command that runs alone, or a write of data alone at its target
-puts-kind : (third : Bool) (kind : Kind) (task : Task) (i : ℕ) → acts_at third Puts kind task i ≡ true → (is_shared kind ≡ false) ⊎ ((kind ≡ DataOnly) × (i ≡ task.target))
-puts-kind third DataOnly task i h = inr (refl, eqb-true i task.target h)
-puts-kind third DegradedWrite task i h = inl refl
-puts-kind third Resync task i h = inl refl
-puts-kind third Rebuild task i h = inl refl
-puts-kind third Read task i h = absurd (false≢true h)
-puts-kind third Update task i h = absurd (false≢true h)
-puts-kind third DegradedRead task i h = absurd (false≢true h)
+puts-kind : (mode : Mode) (kind : Kind) (task : Task) (i : ℕ) → acts_at mode Puts kind task i ≡ true → (is_shared kind ≡ false) ⊎ ((kind ≡ DataOnly) × (i ≡ task.target))
+puts-kind mode DataOnly task i h = inr (refl, eqb-true i task.target h)
+puts-kind mode DegradedWrite task i h = inl refl
+puts-kind mode Resync task i h = inl refl
+puts-kind mode Rebuild task i h = inl refl
+puts-kind mode Read task i h = absurd (false≢true h)
+puts-kind mode Update task i h = absurd (false≢true h)
+puts-kind mode DegradedRead task i h = absurd (false≢true h)
 
 -- the command of a put at parity on a row of a stripe runs alone there
 pub record PutsParity (s : Setting) (stripe c : ℕ) (past : List Entry) (task : Task) : Type 0 where
@@ -228,8 +229,8 @@ puts-parity s past stamp stripe r (Put command opened cdb row bytes names) set g
       its_task = its;
       opened = act-open s past stamp (parity_of s.geometry stripe) command Puts (Put command opened cdb row bytes names) g m (eq-eqb command command refl);
       of_stripe = same;
-      alone = exclusive (puts-kind (is_third_party s.mode) m.0.kind m.0 (parity_of s.geometry stripe)
-          (and_parts (nat_lt (parity_of s.geometry stripe) s.geometry.targets) (acts_at (is_third_party s.mode) Puts m.0.kind m.0 (parity_of s.geometry stripe)) m.1.act.of_task).1);
+      alone = exclusive (puts-kind s.mode m.0.kind m.0 (parity_of s.geometry stripe)
+          (and_parts (nat_lt (parity_of s.geometry stripe) s.geometry.targets) (acts_at s.mode Puts m.0.kind m.0 (parity_of s.geometry stripe)) m.1.act.of_task).1);
     },
   ),
 )
@@ -315,7 +316,7 @@ with-once : (s : Setting) (whole : List Entry) (stripe r c i : ℕ) (task : Task
     AllByRecursion (IsItem s whole past r) older →
     (some_at (task.target + 1) (is_act Diffs c) past ≡ true → OwesOnce c (update_block s past c task r) older) →
     OwesOnce c (update_block s (e ∷ past) c task r) (with_delta s whole i past r event older)
-with-once s whole stripe r c i task e past (Diff command opened cdb row bytes sent dropped) older g o unfolded here q p rec = elim (cases_eq command c) [
+with-once s whole stripe r c i task e past (Diff command opened cdb row bytes sent dropped back) older g o unfolded here q p rec = elim (cases_eq command c) [
   | inl own ↦ mine own
   | inr other ↦ others other
 ]
@@ -334,7 +335,7 @@ with-once s whole stripe r c i task e past (Diff command opened cdb row bytes se
         (ap not (ap (λ (n : ℕ). has_acted Folds n whole) own ∙ unfolded)))))
         (inl (own, block, none))
       where
-        m : MayTarget s past e.stamp i (Diff command opened cdb row bytes sent dropped)
+        m : MayTarget s past e.stamp i (Diff command opened cdb row bytes sent dropped back)
         m = subst (λ (x : Event). MayTarget s past e.stamp i x) q (may-here s past e.stamp e.lock i e.event here g.0.1.1)
 
         u : (m.0.kind ≡ Update) × (i ≡ m.0.target)

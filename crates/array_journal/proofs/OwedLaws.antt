@@ -36,11 +36,11 @@ use Rattle.array_journal.proofs.RenewedParity.{renewal-owes_nothing}
 moved-after : (s : Setting) (stripe r : ℕ) (Q : Delta → Type 0) (e : Entry) (past : List Entry) (event : Event) → IsSetting s → Grows s (e ∷ past) → e.event ≡ event →
     moves_delta event ≡ true → AllByRecursion Q (outstanding s past stripe r) →
     ((command : ℕ) (block : List ℕ) → is_act Diffs command e.event ≡ true → Q (record { command = command; block = block })) → AllByRecursion Q (outstanding s (e ∷ past) stripe r)
-moved-after s stripe r Q e past (Diff command opened cdb row bytes sent dropped) set g q h p new = elim (cases_Bool (covers s.geometry.block row (length bytes) r)) [
+moved-after s stripe r Q e past (Diff command opened cdb row bytes sent dropped back) set g q h p new = elim (cases_Bool (covers s.geometry.block row (length bytes) r)) [
   | inl hit ↦ subst (AllByRecursion Q)
-      (sym (outstanding-diff s stripe r lock.0 command opened cdb row bytes sent dropped e past set g lock.1.0 q hit))
+      (sym (outstanding-diff s stripe r lock.0 command opened cdb row bytes sent dropped back e past set g lock.1.0 q hit))
       (new command (block_at s.geometry.block (delta_of s lock.0 past row bytes) (r - row)) acts_so, p)
-  | inr beside ↦ subst (AllByRecursion Q) (sym (outstanding-diff_beside s stripe r command opened cdb row bytes sent dropped e past q beside)) p
+  | inr beside ↦ subst (AllByRecursion Q) (sym (outstanding-diff_beside s stripe r command opened cdb row bytes sent dropped back e past q beside)) p
 ]
   where
     acts_so : is_act Diffs command e.event ≡ true
@@ -85,7 +85,7 @@ diff-open s c e past g h =
     by e.event refl h ∙ before (act-lock s past e.stamp e.lock c Diffs e.event g.0.1.1 h)
   where
     by : (event : Event) → e.event ≡ event → is_act Diffs c event ≡ true → is_open c (e ∷ past) ≡ is_open c past
-    by (Diff command opened cdb row bytes sent dropped) q k = is_open-quiet c e past (ap (opens_command c) q) (ap (ends_command c) q)
+    by (Diff command opened cdb row bytes sent dropped back) q k = is_open-quiet c e past (ap (opens_command c) q) (ap (ends_command c) q)
     by _ q k = absurd (false≢true k)
 
     before : (i : ℕ) × ((e.lock ≡ i + 1) × MayTarget s past e.stamp i e.event) → is_open c past ≡ true

@@ -93,7 +93,7 @@ none-left P (d ∷ ds) never p = absurd (never d p.0)
 -- two journals in which the same commands folded
 with_delta-agrees : (s : Setting) (v w : List Entry) (i : ℕ) (past : List Entry) (r : ℕ) (event : Event) (older : List Delta) →
     ((c : ℕ) → has_acted Folds c v ≡ has_acted Folds c w) → with_delta s v i past r event older ≡ with_delta s w i past r event older
-with_delta-agrees s v w i past r (Diff command opened cdb row bytes sent dropped) older same =
+with_delta-agrees s v w i past r (Diff command opened cdb row bytes sent dropped back) older same =
     ap (λ b. cond (covers s.geometry.block row (length bytes) r && not b)
     (record { command = command; block = block_at s.geometry.block (delta_of s i past row bytes) (r - row) } ∷ older) older) (same command)
 with_delta-agrees s v w i past r _ older same = refl
@@ -113,7 +113,7 @@ FoldsBeside c v w = (d : ℕ) → has_acted Folds d v ≡ cond (c == d) true (ha
 
 with_delta-fold : (s : Setting) (c : ℕ) (v w : List Entry) (i : ℕ) (past : List Entry) (r : ℕ) (event : Event) (older : List Delta) → FoldsBeside c v w →
     with_delta s v i past r event (without_command c older) ≡ without_command c (with_delta s w i past r event older)
-with_delta-fold s c v w i past r (Diff command opened cdb row bytes sent dropped) older beside = elim (cases_eq c command) [
+with_delta-fold s c v w i past r (Diff command opened cdb row bytes sent dropped back) older beside = elim (cases_eq c command) [
   | inl own ↦ cond-false (hit && not (has_acted Folds command v)) (item ∷ without_command c older) (without_command c older)
       (and_right hit (not (has_acted Folds command v)) (ap not (beside command ∙ cond-true (c == command) true (has_acted Folds command w) (eq-eqb c command own))))
       ∙ cond_both (hit && not (has_acted Folds command w)) (item ∷ older) older (λ (l : List Delta). without_command c older ≡ without_command c l)

@@ -30,7 +30,7 @@ use Rattle.array_journal.proofs.OwedItems.{HasFolded, has-folded, diff-unfolded,
 
 -- the event makes a delta, or brings one to parity
 abbrev pub moves_delta : Event → Bool
-moves_delta (Diff command opened cdb row bytes sent dropped) = true
+moves_delta (Diff command opened cdb row bytes sent dropped back) = true
 moves_delta (Fold command opened cdb row bytes names) = true
 moves_delta _ = false
 
@@ -40,7 +40,7 @@ still-folds c _ h = refl
 
 still-deltas : (s : Setting) (whole : List Entry) (i : ℕ) (past : List Entry) (r : ℕ) (event : Event) (older : List Delta) → moves_delta event ≡ false →
     with_delta s whole i past r event older ≡ older
-still-deltas s whole i past r (Diff command opened cdb row bytes sent dropped) older h = absurd (false≢true (sym h))
+still-deltas s whole i past r (Diff command opened cdb row bytes sent dropped back) older h = absurd (false≢true (sym h))
 still-deltas s whole i past r _ older h = refl
 
 -- an entry that folds nothing leaves what was folded
@@ -60,10 +60,10 @@ pub outstanding-put : (s : Setting) (stripe r : ℕ) (e : Entry) (past : List En
 outstanding-put s stripe r e past here puts = outstanding_in-put s (e ∷ past) stripe r e past here puts
 
 -- a diff over the row adds its delta
-pub outstanding-diff : (s : Setting) (stripe r i command : ℕ) (opened : At) (cdb : Cdb) (row : ℕ) (bytes : List ℕ) (sent dropped : Bool) (e : Entry) (past : List Entry) →
-    IsSetting s → Grows s (e ∷ past) → e.lock ≡ i + 1 → e.event ≡ Diff command opened cdb row bytes sent dropped → covers s.geometry.block row (length bytes) r ≡ true →
+pub outstanding-diff : (s : Setting) (stripe r i command : ℕ) (opened : At) (cdb : Cdb) (row : ℕ) (bytes : List ℕ) (sent dropped back : Bool) (e : Entry) (past : List Entry) →
+    IsSetting s → Grows s (e ∷ past) → e.lock ≡ i + 1 → e.event ≡ Diff command opened cdb row bytes sent dropped back → covers s.geometry.block row (length bytes) r ≡ true →
     outstanding s (e ∷ past) stripe r ≡ record { command = command; block = block_at s.geometry.block (delta_of s i past row bytes) (r - row) } ∷ outstanding s past stripe r
-outstanding-diff s stripe r i command opened cdb row bytes sent dropped e past set g here q hit =
+outstanding-diff s stripe r i command opened cdb row bytes sent dropped back e past set g here q hit =
     outstanding_in-here s (e ∷ past) stripe r i e past here (λ k. ap (puts_row s r) q)
     ∙ ap (λ (x : Event). with_delta s (e ∷ past) i past r x older) q
     ∙ cond-true (covers s.geometry.block row (length bytes) r && not (has_acted Folds command (e ∷ past))) (item ∷ older) older
@@ -82,10 +82,10 @@ outstanding-diff s stripe r i command opened cdb row bytes sent dropped e past s
         ∙ diff-unfolded s i command e past set g here (ap (is_act Diffs command) q ∙ eq-eqb command command refl)
 
 -- a diff beside it adds none
-pub outstanding-diff_beside : (s : Setting) (stripe r command : ℕ) (opened : At) (cdb : Cdb) (row : ℕ) (bytes : List ℕ) (sent dropped : Bool) (e : Entry) (past : List Entry) →
-    e.event ≡ Diff command opened cdb row bytes sent dropped → covers s.geometry.block row (length bytes) r ≡ false →
+pub outstanding-diff_beside : (s : Setting) (stripe r command : ℕ) (opened : At) (cdb : Cdb) (row : ℕ) (bytes : List ℕ) (sent dropped back : Bool) (e : Entry) (past : List Entry) →
+    e.event ≡ Diff command opened cdb row bytes sent dropped back → covers s.geometry.block row (length bytes) r ≡ false →
     outstanding s (e ∷ past) stripe r ≡ outstanding s past stripe r
-outstanding-diff_beside s stripe r command opened cdb row bytes sent dropped e past q beside =
+outstanding-diff_beside s stripe r command opened cdb row bytes sent dropped back e past q beside =
     outstanding_in-still s (e ∷ past) stripe r e past (λ k. ap (puts_row s r) q) quiet
     ∙ outstanding_in-agrees s (e ∷ past) past stripe r past (unfolding_so e past (λ c. ap (is_act Folds c) q))
   where

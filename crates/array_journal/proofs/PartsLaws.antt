@@ -290,8 +290,8 @@ target-parts s past stamp i (Put command opened cdb row bytes names) (task, m) =
       found_part = found-act m.act;
       earlier = (m.act.opening.1, fetched.1);
     }
-target-parts s past stamp i (Diff command opened cdb row bytes sent dropped) (task, m) = record {
-  asked_part = (task, record { act = asked-act m.act; written = m.written; sent_by_mode = m.sent_by_mode });
+target-parts s past stamp i (Diff command opened cdb row bytes sent dropped back) (task, m) = record {
+  asked_part = (task, record { act = asked-act m.act; written = m.written; sent_by_mode = m.sent_by_mode; back_by_mode = m.back_by_mode });
   found_part = record { act = found-act m.act; dropped_when_due = m.dropped_when_due };
   earlier = (m.act.opening.1, tt);
 }
@@ -305,10 +305,10 @@ target-parts s past stamp i (Fold command opened cdb row bytes names) (task, (na
   found_part = found-act m.act;
   earlier = (m.act.opening.1, subst (λ (ns : List At). AllEarlier stamp ns) (sym m.one) (m.earlier, tt));
 }
-target-parts s past stamp i (Hold command opened cdb row bytes kept names) (task, m) =
+target-parts s past stamp i (Hold command opened cdb row bytes kept names back) (task, m) =
     let fetched = named_at past stamp (fetched_targets s task) (is_act Fetches command) names m.fetched in
     record {
-      asked_part = (task, record { act = asked-act m.act; kept_here = m.kept_here; fetched = fetched.0 });
+      asked_part = (task, record { act = asked-act m.act; kept_here = m.kept_here; not_handed = m.not_handed; fetched = fetched.0 });
       found_part = record { act = found-act m.act; made = m.made };
       earlier = (m.act.opening.1, fetched.1);
     }
@@ -392,12 +392,13 @@ target-whole s past stamp i (Put command opened cdb row bytes names) (task, a) f
     made = a.made;
   },
 )
-target-whole s past stamp i (Diff command opened cdb row bytes sent dropped) (task, a) f later = (
+target-whole s past stamp i (Diff command opened cdb row bytes sent dropped back) (task, a) f later = (
   task,
   record {
     act = may-act a.act f.act later.0;
     written = a.written;
     sent_by_mode = a.sent_by_mode;
+    back_by_mode = a.back_by_mode;
     dropped_when_due = f.dropped_when_due;
   },
 )
@@ -406,11 +407,12 @@ target-whole s past stamp i (Take command opened cdb row bytes) (task, a) f late
 target-whole s past stamp i (Fold command opened cdb row bytes names) (task, (name, a)) f later =
     let earlier = subst (λ (ns : List At). AllEarlier stamp ns) a.one later.1 in
     (task, (name, record { act = may-act a.act f later.0; one = a.one; at_source = a.at_source; earlier = earlier.0; source = a.source }))
-target-whole s past stamp i (Hold command opened cdb row bytes kept names) (task, a) f later = (
+target-whole s past stamp i (Hold command opened cdb row bytes kept names back) (task, a) f later = (
   task,
   record {
     act = may-act a.act f.act later.0;
     kept_here = a.kept_here;
+    not_handed = a.not_handed;
     fetched = names_at past stamp (fetched_targets s task) (is_act Fetches command) names a.fetched later.1;
     made = f.made;
   },

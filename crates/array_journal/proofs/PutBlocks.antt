@@ -15,7 +15,7 @@ use Rattle.array_journal.specs.declared.task.Kind.{Kind}
 use Rattle.array_journal.specs.declared.task.Kind.TheVariants.{DataOnly, DegradedWrite, Rebuild, Resync}
 use Rattle.array_journal.specs.declared.task.Task.{Task}
 use Rattle.array_journal.specs.Lists.{block_at, numbers}
-use Rattle.array_journal.specs.Acts.{Fetches, has_act, acts_at, is_third_party, is_act, task_bytes}
+use Rattle.array_journal.specs.Acts.{Fetches, has_act, acts_at, is_act, task_bytes}
 use Rattle.array_journal.specs.May.{MayPut, NamesAt, fetched_targets, bytes_named, IsTask, IsTaskOfKind}
 use Rattle.array_journal.specs.Run.{IsSetting, Grows}
 use Rattle.array_journal.specs.Laws.{RunsAlone}
@@ -130,5 +130,5 @@ put-data s past stamp i c opened cdb row bytes names task m k size =
     ∙ xor-zeros (length bytes) task.bytes (size ∙ sym m.act.whole)
   where
     none : (x : ℕ) → has_act s Fetches task x ≡ false
-    none x = and_right (nat_lt x s.geometry.targets) (acts_at (is_third_party s.mode) Fetches task.kind task x)
-        (ap (λ (y : Kind). acts_at (is_third_party s.mode) Fetches y task x) k)
+    none x = and_right (nat_lt x s.geometry.targets) (acts_at s.mode Fetches task.kind task x)
+        (ap (λ (y : Kind). acts_at s.mode Fetches y task x) k)

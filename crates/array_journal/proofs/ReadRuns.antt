@@ -12,7 +12,7 @@ use Rattle.array_journal.specs.declared.task.Kind.TheVariants.{Read}
 use Rattle.array_journal.specs.declared.task.Task.{Task}
 use Rattle.array_journal.specs.Entries.{entry_at, some_at}
 use Rattle.array_journal.specs.Commands.{opens, ends_command, open_count, is_open, task_of}
-use Rattle.array_journal.specs.Acts.{Act, Fetches, Puts, Diffs, Takes, Folds, Holds, acts_at, is_act, is_third_party, task_bytes, cdb_of}
+use Rattle.array_journal.specs.Acts.{Act, Fetches, Puts, Diffs, Takes, Folds, Holds, acts_at, is_act, task_bytes, cdb_of}
 use Rattle.array_journal.specs.Media.{media, held, rows_on}
 use Rattle.array_journal.specs.Decision.{has_room, has_room_at, holder_of}
 use Rattle.array_journal.specs.Lists.{slice}
@@ -69,7 +69,7 @@ may-fetch s past task fetch q sound kind spelt = (
     found = record {
       act = act-calm s (opened_past past task) (length past + 2) task.target (open_count past) (length past + 1) (suc (open_count past)) (opened_name past)
           fetch (length (rows_on s task.target past task.row (task_bytes s task))) task Fetches (opened-calm s past task q) (opened-stands past task)
-          (omega arith) refl (has-there s Fetches task Read (is_third_party s.mode) task.target kind refl sound.target (eq-eqb task.target task.target refl))
+          (omega arith) refl (has-there s Fetches task Read s.mode task.target kind refl sound.target (eq-eqb task.target task.target refl))
           (opened-once s past task (task.target + 1) (is_act Fetches (open_count past)) q refl (calm-no_fetches (open_count past))) whole spelt;
       read = ap (λ n. rows_on s task.target past task.row n) (sym whole)
           ∙ same_rows s past task task.target task.row (length (rows_on s task.target past task.row (task_bytes s task)));
@@ -91,11 +91,11 @@ read-names s past task fetch sound kind = record {
     names-own s (fetched_past s past task fetch) (length past + 3) (open_count past) task task.target (fetch_name past task)
         (fetch_entry s past task fetch).event refl (omega arith) (fetch-stands s past task fetch)
         (own-fetches s (open_count past) task task.target (fetch_entry s past task fetch).event
-        (has-there s Fetches task Read (is_third_party s.mode) task.target kind refl sound.target (eq-eqb task.target task.target refl))
+        (has-there s Fetches task Read s.mode task.target kind refl sound.target (eq-eqb task.target task.target refl))
         (eq-eqb (open_count past) (open_count past) refl)),
     tt,
   );
-  fetches = all_named-one s (fetched_past s past task fetch) (open_count past) task Fetches (fetch_name past task ∷ []) Read (is_third_party s.mode)
+  fetches = all_named-one s (fetched_past s past task fetch) (open_count past) task Fetches (fetch_name past task ∷ []) Read s.mode
       task.target kind refl (λ i. refl)
       (named-here (fetched_past s past task fetch) (open_count past) Fetches task.target (fetch_name past task) [] (fetch_entry s past task fetch).event
       refl (fetch-stands s past task fetch) (eq-eqb (open_count past) (open_count past) refl));
@@ -105,10 +105,10 @@ read-names s past task fetch sound kind = record {
   holds = unnamed Holds (λ i. refl);
 }
   where
-    unnamed : (act : Act) → ((i : ℕ) → acts_at (is_third_party s.mode) act Read task i ≡ false) →
+    unnamed : (act : Act) → ((i : ℕ) → acts_at s.mode act Read task i ≡ false) →
         AllNamed s (fetched_past s past task fetch) (open_count past) task act (fetch_name past task ∷ [])
     unnamed act never =
-        all_named-none s (fetched_past s past task fetch) (open_count past) task act (fetch_name past task ∷ []) Read (is_third_party s.mode) kind refl never
+        all_named-none s (fetched_past s past task fetch) (open_count past) task act (fetch_name past task ∷ []) Read s.mode kind refl never
 
 pub may-close_read : (s : Setting) (past : List Entry) (task : Task) (fetch : Cdb) → Quiet s past → IsTask s task → task.kind ≡ Read →
     May s (fetched_past s past task fetch) (close_read_entry past task)
@@ -121,7 +121,7 @@ may-close_read s past task fetch q sound kind = (
       (still_open, tasked),
       record {
         acts = read-names s past task fetch sound kind;
-        folds = all_named-none s (fetched_past s past task fetch) (open_count past) task Folds (fetch_name past task ∷ []) Read (is_third_party s.mode)
+        folds = all_named-none s (fetched_past s past task fetch) (open_count past) task Folds (fetch_name past task ∷ []) Read s.mode
             kind refl (λ i. refl);
         no_cause = refl;
         answer = sym (ap (λ (k : Kind). closed_bytes s (fetched_past s past task fetch) task (fetch_name past task ∷ []) k) kind);

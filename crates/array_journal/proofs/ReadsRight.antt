@@ -63,10 +63,10 @@ close-legal s past stamp command names cause bytes task set g kept o m old = cho
     choose true k = right cause (degraded_read-kind task.kind k) m
     choose false k = old
 
-diff-legal : (s : Setting) (past : List Entry) (command : ℕ) (opened : At) (cdb : Cdb) (row : ℕ) (bytes : List ℕ) (sent dropped : Bool) (found : Option Task) →
-    Legal s.geometry (host s.geometry past) → LegalAfter s past (Diff command opened cdb row bytes sent dropped) found
-diff-legal s past command opened cdb row bytes sent dropped None old = old
-diff-legal s past command opened cdb row bytes sent dropped (Some task) old = (tt, old)
+diff-legal : (s : Setting) (past : List Entry) (command : ℕ) (opened : At) (cdb : Cdb) (row : ℕ) (bytes : List ℕ) (sent dropped back : Bool) (found : Option Task) →
+    Legal s.geometry (host s.geometry past) → LegalAfter s past (Diff command opened cdb row bytes sent dropped back) found
+diff-legal s past command opened cdb row bytes sent dropped back None old = old
+diff-legal s past command opened cdb row bytes sent dropped back (Some task) old = (tt, old)
 
 put-legal : (s : Setting) (past : List Entry) (command : ℕ) (opened : At) (cdb : Cdb) (row : ℕ) (bytes : List ℕ) (names : List At) (found : Option Task) →
     Legal s.geometry (host s.geometry past) → LegalAfter s past (Put command opened cdb row bytes names) found
@@ -89,15 +89,15 @@ legal-after s past stamp zero (Close command true names cause bytes) set g kept 
 legal-after s past stamp zero (Close command false names cause bytes) set g kept m old = unclosed-legal s past command names cause bytes (task_of command past) old
 legal-after s past stamp zero (Fetch command opened cdb row bytes) set g kept m old = absurd m
 legal-after s past stamp zero (Put command opened cdb row bytes names) set g kept m old = absurd m
-legal-after s past stamp zero (Diff command opened cdb row bytes sent dropped) set g kept m old = absurd m
+legal-after s past stamp zero (Diff command opened cdb row bytes sent dropped back) set g kept m old = absurd m
 legal-after s past stamp zero (Refuse call piece why) set g kept m old = (tt, old)
 legal-after s past stamp zero _ set g kept m old = old
 legal-after s past stamp (suc i) (Fetch command opened cdb row bytes) set g kept m old =
     subst (LegalAfter s past (Fetch command opened cdb row bytes)) (sym (act_task s past stamp i command opened cdb row _ 0 m.1.0 Fetches g m.1.1.act))
     (fetch-legal s past stamp i command opened cdb row bytes m.1.0 set g kept m.1.1 old)
 legal-after s past stamp (suc i) (Put command opened cdb row bytes names) set g kept m old = put-legal s past command opened cdb row bytes names (task_of command past) old
-legal-after s past stamp (suc i) (Diff command opened cdb row bytes sent dropped) set g kept m old =
-    diff-legal s past command opened cdb row bytes sent dropped (task_of command past) old
+legal-after s past stamp (suc i) (Diff command opened cdb row bytes sent dropped back) set g kept m old =
+    diff-legal s past command opened cdb row bytes sent dropped back (task_of command past) old
 legal-after s past stamp (suc i) (Close command done names cause bytes) set g kept m old = absurd m.1
 legal-after s past stamp (suc i) (Refuse call piece why) set g kept m old = absurd m.1
 legal-after s past stamp (suc i) _ set g kept m old = old

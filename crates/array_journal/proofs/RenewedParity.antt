@@ -16,7 +16,7 @@ use Rattle.array_journal.specs.declared.task.Task.{Task}
 use Rattle.array_journal.specs.Lists.{block_at}
 use Rattle.array_journal.specs.Entries.{some_at}
 use Rattle.array_journal.specs.Commands.{opens_command, is_open, task_of, is_shared}
-use Rattle.array_journal.specs.Acts.{Puts, Diffs, Folds, has_act, is_third_party, is_act, task_bytes}
+use Rattle.array_journal.specs.Acts.{Puts, Diffs, Folds, has_act, is_act, task_bytes}
 use Rattle.array_journal.specs.Lives.{closes_done}
 use Rattle.array_journal.specs.Listed.{makes_parity, renews_parity}
 use Rattle.array_journal.specs.Deltas.{Delta, covers, delta_of, has_acted, puts_row, with_delta, outstanding_in, outstanding}
@@ -47,14 +47,14 @@ renewal-kind s Resync task set sound k h rows = record {
   alone = ap is_shared k;
   from_row = rows.0;
   all_rows = rows.1;
-  puts = has-there s Puts task Resync (is_third_party s.mode) (parity_of s.geometry task.stripe) k refl (parity_of-below s task.stripe set)
+  puts = has-there s Puts task Resync s.mode (parity_of s.geometry task.stripe) k refl (parity_of-below s task.stripe set)
       (eq-eqb (parity_of s.geometry task.stripe) task.parity (sym sound.parity));
 }
 renewal-kind s Rebuild task set sound k h rows = record {
   alone = ap is_shared k;
   from_row = rows.0;
   all_rows = rows.1;
-  puts = has-there s Puts task Rebuild (is_third_party s.mode) (parity_of s.geometry task.stripe) k refl (parity_of-below s task.stripe set)
+  puts = has-there s Puts task Rebuild s.mode (parity_of s.geometry task.stripe) k refl (parity_of-below s task.stripe set)
       (eq-eqb (parity_of s.geometry task.stripe) task.target (sym (eqb-true task.target task.parity h ∙ sound.parity)));
 }
 renewal-kind s Read task set sound k h rows = absurd (false≢true h)
@@ -89,15 +89,15 @@ put-row s past stamp i c r task (Put command opened cdb row bytes names) g m h i
 put-row s past stamp i c r task _ g m h its hit = absurd (false≢true h)
 
 -- while a command runs alone on a stripe, no diff is made on its rows
-pub no-diff_beside : (s : Setting) (stripe r i c : ℕ) (task : Task) (command : ℕ) (opened : At) (cdb : Cdb) (row : ℕ) (bytes : List ℕ) (sent dropped : Bool) (e : Entry) (past : List Entry) →
+pub no-diff_beside : (s : Setting) (stripe r i c : ℕ) (task : Task) (command : ℕ) (opened : At) (cdb : Cdb) (row : ℕ) (bytes : List ℕ) (sent dropped back : Bool) (e : Entry) (past : List Entry) →
     IsSetting s → Grows s (e ∷ past) → IsRowOf s.geometry stripe r → is_open c past ≡ true → task_of c past ≡ Some task → task.stripe ≡ stripe → is_shared task.kind ≡ false →
-    e.lock ≡ i + 1 → e.event ≡ Diff command opened cdb row bytes sent dropped → covers s.geometry.block row (length bytes) r ≡ false
-no-diff_beside s stripe r i c task command opened cdb row bytes sent dropped e past set g at oc its same alone here q = elim (cases_Bool (covers s.geometry.block row (length bytes) r)) [
+    e.lock ≡ i + 1 → e.event ≡ Diff command opened cdb row bytes sent dropped back → covers s.geometry.block row (length bytes) r ≡ false
+no-diff_beside s stripe r i c task command opened cdb row bytes sent dropped back e past set g at oc its same alone here q = elim (cases_Bool (covers s.geometry.block row (length bytes) r)) [
   | inl hit ↦ absurd (never hit)
   | inr beside ↦ beside
 ]
   where
-    m : SomeTask (λ other. MayDiff s past e.stamp i command opened cdb row bytes sent dropped other)
+    m : SomeTask (λ other. MayDiff s past e.stamp i command opened cdb row bytes sent dropped back other)
     m = subst (λ (x : Event). MayTarget s past e.stamp i x) q (may-here s past e.stamp e.lock i e.event here g.0.1.1)
 
     other_its : task_of command past ≡ Some m.0
@@ -120,11 +120,11 @@ no-diff_beside s stripe r i c task command opened cdb row bytes sent dropped e p
 no-delta_beside : (s : Setting) (whole : List Entry) (stripe r i c : ℕ) (task : Task) (e : Entry) (past : List Entry) (event : Event) → IsSetting s → Grows s (e ∷ past) →
     IsRowOf s.geometry stripe r → is_open c past ≡ true → task_of c past ≡ Some task → task.stripe ≡ stripe → is_shared task.kind ≡ false → e.lock ≡ i + 1 → e.event ≡ event →
     with_delta s whole i past r event [] ≡ []
-no-delta_beside s whole stripe r i c task e past (Diff command opened cdb row bytes sent dropped) set g at oc its same alone here q =
+no-delta_beside s whole stripe r i c task e past (Diff command opened cdb row bytes sent dropped back) set g at oc its same alone here q =
     cond-false (covers s.geometry.block row (length bytes) r && not (has_acted Folds command whole))
     (record { command = command; block = block_at s.geometry.block (delta_of s i past row bytes) (r - row) } ∷ []) []
     (and_left (covers s.geometry.block row (length bytes) r) (not (has_acted Folds command whole))
-    (no-diff_beside s stripe r i c task command opened cdb row bytes sent dropped e past set g at oc its same alone here q))
+    (no-diff_beside s stripe r i c task command opened cdb row bytes sent dropped back e past set g at oc its same alone here q))
 no-delta_beside s whole stripe r i c task e past _ set g at oc its same alone here q = refl
 
 renewed-in : (s : Setting) (whole : List Entry) (c r : ℕ) (task : Task) (past : List Entry) → IsSetting s → Grows s past → IsRenewal s task →

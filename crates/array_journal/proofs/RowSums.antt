@@ -83,9 +83,9 @@ pub put-only : (c command : ℕ) (opened : At) (cdb : Cdb) (row : ℕ) (bytes : 
     (is_act Diffs c event || is_act Puts c event) ≡ true → command ≡ c
 put-only c command opened cdb row bytes names event q h = eqb-true command c (sym (ap (λ (x : Event). is_act Diffs c x || is_act Puts c x) q) ∙ h)
 
-pub diff-only : (c command : ℕ) (opened : At) (cdb : Cdb) (row : ℕ) (bytes : List ℕ) (sent dropped : Bool) (event : Event) → event ≡ Diff command opened cdb row bytes sent dropped →
+pub diff-only : (c command : ℕ) (opened : At) (cdb : Cdb) (row : ℕ) (bytes : List ℕ) (sent dropped back : Bool) (event : Event) → event ≡ Diff command opened cdb row bytes sent dropped back →
     (is_act Diffs c event || is_act Puts c event) ≡ true → command ≡ c
-diff-only c command opened cdb row bytes sent dropped event q h =
+diff-only c command opened cdb row bytes sent dropped back event q h =
     eqb-true command c (sym (or_false (command == c)) ∙ sym (ap (λ (x : Event). is_act Diffs c x || is_act Puts c x) q) ∙ h)
   where
     or_false : (b : Bool) → (b || false) ≡ b

@@ -64,10 +64,10 @@ unfitted_law s i c act e past g m here h = elim (cases_Bool (is_unfitted i past)
 no_act : (s : Setting) (past : List Entry) (stamp c : ℕ) (act : Act) (event : Event) → MayBook s past stamp event → is_act act c event ≡ true → ⊥
 no_act s past stamp c Fetches (Fetch command opened cdb row bytes) m h = m
 no_act s past stamp c Puts (Put command opened cdb row bytes names) m h = m
-no_act s past stamp c Diffs (Diff command opened cdb row bytes sent dropped) m h = m
+no_act s past stamp c Diffs (Diff command opened cdb row bytes sent dropped back) m h = m
 no_act s past stamp c Takes (Take command opened cdb row bytes) m h = m
 no_act s past stamp c Folds (Fold command opened cdb row bytes names) m h = m
-no_act s past stamp c Holds (Hold command opened cdb row bytes kept names) m h = m
+no_act s past stamp c Holds (Hold command opened cdb row bytes kept names back) m h = m
 no_act s past stamp c Fetches _ m h = false≢true h
 no_act s past stamp c Puts _ m h = false≢true h
 no_act s past stamp c Diffs _ m h = false≢true h

@@ -1,7 +1,7 @@
 -- What stands in a journal, by name or by lock, and what one more entry leaves of it.
 use Rattle.std.specs.Prelude.{◌≡◌, ◌==◌, ◌&&◌, ◌||◌, ◌<◌, ◌≤◌, ◌⊎◌, nat_lt, not, ℕ, suc, ◌+◌, Bool, true, false, List, [], ◌∷◌, Option, Some, None}
 use Rattle.std.proofs.Common.{refl, ap, sym, ◌∙◌, cond, arith, subst, inl, inr}
-use Rattle.std.proofs.lemmas.Bool.{eq-eqb, ne_eqb, eqb-true, cases_eq, and_parts, or_cases, or_parts, or_left, or_right, ltb-true, lt-ltb, le-ltb, both_ways, false≢true}
+use Rattle.std.proofs.lemmas.Bool.{cases_Bool, cond-false, eq-eqb, ne_eqb, eqb-true, cases_eq, and_parts, or_cases, or_parts, or_left, or_right, ltb-true, lt-ltb, le-ltb, both_ways, false≢true}
 use Rattle.array_journal.specs.declared.at.At.{At}
 use Rattle.array_journal.specs.declared.entry.Entry.{Entry}
 use Rattle.array_journal.specs.declared.event.Event.{Event}
@@ -66,7 +66,7 @@ count_at-more k test e past = one_more ((e.lock == k) && test e.event) (count_at
 abbrev pub IsNameOf : At → Entry → Type 0
 IsNameOf name e = (name.stamp ≡ e.stamp) × (name.lock ≡ e.lock)
 
-same-name : (name : At) (e : Entry) → same_at name (name_of e) ≡ true → IsNameOf name e
+pub same-name : (name : At) (e : Entry) → same_at name (name_of e) ≡ true → IsNameOf name e
 same-name name e h =
     let both : ((name.stamp == e.stamp) ≡ true) × ((name.lock == e.lock) ≡ true) = and_parts (name.stamp == e.stamp) (name.lock == e.lock) h in
     (eqb-true name.stamp e.stamp both.0, eqb-true name.lock e.lock both.1)
@@ -125,20 +125,25 @@ named-below test stamp name (e ∷ past) b p = elim (passes-cases test name e pa
       | inr less ↦ let l : e.stamp < stamp = ltb-true e.stamp stamp less in let f : name.stamp ≡ e.stamp = same.0 in omega arith
     ]
 
--- and is found under its name after one more entry
-pub entry_at-more : (name : At) (e : Entry) (past : List Entry) (event : Event) → stamps_below e.lock e.stamp past ≡ true →
-    entry_at name past ≡ Some event → entry_at name (e ∷ past) ≡ Some event
-entry_at-more name e past event b h = choose (same_at name (name_of e)) (same-name name e)
+-- so it isn't named as that entry
+pub not-later : (name : At) (e : Entry) (past : List Entry) (event : Event) → stamps_below e.lock e.stamp past ≡ true →
+    entry_at name past ≡ Some event → same_at name (name_of e) ≡ false
+not-later name e past event b h = elim (cases_Bool (same_at name (name_of e))) [
+  | inl same ↦ absurd (never (same-name name e same))
+  | inr other ↦ other
+]
   where
-    other : IsNameOf name e → ⊥
-    other same =
+    never : IsNameOf name e → ⊥
+    never same =
         let l : name.stamp < e.stamp =
         named-below (λ x. true) e.stamp name past (subst (λ (k : ℕ). stamps_below k e.stamp past ≡ true) (sym same.1) b) (passes-said (λ x. true) name past event h refl) in
         let f : name.stamp ≡ e.stamp = same.0 in omega arith
 
-    choose : (x : Bool) → (x ≡ true → IsNameOf name e) → cond x (Some e.event) (entry_at name past) ≡ Some event
-    choose true f = absurd (other (f refl))
-    choose false f = h
+-- and is found under its name after one more entry
+pub entry_at-more : (name : At) (e : Entry) (past : List Entry) (event : Event) → stamps_below e.lock e.stamp past ≡ true →
+    entry_at name past ≡ Some event → entry_at name (e ∷ past) ≡ Some event
+entry_at-more name e past event b h =
+    cond-false (same_at name (name_of e)) (Some e.event) (entry_at name past) (not-later name e past event b h) ∙ h
 
 pub passes-more : (test : Event → Bool) (name : At) (e : Entry) (past : List Entry) → stamps_below e.lock e.stamp past ≡ true →
     passes test (entry_at name past) ≡ true → passes test (entry_at name (e ∷ past)) ≡ true

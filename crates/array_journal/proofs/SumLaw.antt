@@ -88,12 +88,12 @@ put-data_kept s e past stripe r command opened cdb row bytes names its set g at 
         (subst (λ (x : Task). is_put_write x.kind ≡ true) same_task (put_kind u e.lock c e.event q w.how))
 
 -- a diff beside the row
-diff-data_kept : (s : Setting) (e : Entry) (past : List Entry) (stripe r command : ℕ) (opened : At) (cdb : Cdb) (row : ℕ) (bytes : List ℕ) (sent dropped : Bool) (its : Task) →
-    IsSetting s → Grows s (e ∷ past) → IsRowOf s.geometry stripe r → e.event ≡ Diff command opened cdb row bytes sent dropped → task_of command past ≡ Some its →
+diff-data_kept : (s : Setting) (e : Entry) (past : List Entry) (stripe r command : ℕ) (opened : At) (cdb : Cdb) (row : ℕ) (bytes : List ℕ) (sent dropped back : Bool) (its : Task) →
+    IsSetting s → Grows s (e ∷ past) → IsRowOf s.geometry stripe r → e.event ≡ Diff command opened cdb row bytes sent dropped back → task_of command past ≡ Some its →
     IsBeside its.row its.count r → data_sum s (e ∷ past) stripe r ≡ data_sum s past stripe r
-diff-data_kept s e past stripe r command opened cdb row bytes sent dropped its set g at q task beside =
+diff-data_kept s e past stripe r command opened cdb row bytes sent dropped back its set g at q task beside =
     sum-kept s e past stripe r set g at (λ c u w same j h k. never c u
-    (write-task s past e.lock c command u its e.event w (λ d m. diff-only d command opened cdb row bytes sent dropped e.event q m) task) j h k)
+    (write-task s past e.lock c command u its e.event w (λ d m. diff-only d command opened cdb row bytes sent dropped back e.event q m) task) j h k)
   where
     never : (c : ℕ) (u : Task) → u ≡ its → (j : ℕ) → j < u.count → r ≡ u.row + j → ⊥
     never c u same j h k = not-beside its r j beside (subst (λ (x : Task). j < x.count) same h) (k ∙ ap (λ (x : Task). x.row + j) same)
@@ -122,24 +122,24 @@ put-at_parity s e past stripe r c opened cdb row bytes names task set g kept at 
     sound = act_sound s past e.stamp p c opened cdb row (length bytes) (length names) task Puts g.1 m.act
 
 -- a diff at parity's target is of another stripe
-diff-at_parity : (s : Setting) (e : Entry) (past : List Entry) (stripe r c : ℕ) (opened : At) (cdb : Cdb) (row : ℕ) (bytes : List ℕ) (sent dropped : Bool) (task : Task) →
-    IsSetting s → Grows s (e ∷ past) → IsRowOf s.geometry stripe r → e.event ≡ Diff c opened cdb row bytes sent dropped → e.lock ≡ parity_of s.geometry stripe + 1 →
-    MayDiff s past e.stamp (parity_of s.geometry stripe) c opened cdb row bytes sent dropped task → Falls task r →
+diff-at_parity : (s : Setting) (e : Entry) (past : List Entry) (stripe r c : ℕ) (opened : At) (cdb : Cdb) (row : ℕ) (bytes : List ℕ) (sent dropped back : Bool) (task : Task) →
+    IsSetting s → Grows s (e ∷ past) → IsRowOf s.geometry stripe r → e.event ≡ Diff c opened cdb row bytes sent dropped back → e.lock ≡ parity_of s.geometry stripe + 1 →
+    MayDiff s past e.stamp (parity_of s.geometry stripe) c opened cdb row bytes sent dropped back task → Falls task r →
     xor (stands s past (parity_of s.geometry stripe) r) (data_sum s past stripe r) ≡ owed_sum s past stripe r →
     xor (stands s (e ∷ past) (parity_of s.geometry stripe) r) (data_sum s (e ∷ past) stripe r) ≡ owed_sum s (e ∷ past) stripe r
-diff-at_parity s e past stripe r c opened cdb row bytes sent dropped task set g at q here m (Within j h k) old =
+diff-at_parity s e past stripe r c opened cdb row bytes sent dropped back task set g at q here m (Within j h k) old =
     let p : ℕ = parity_of s.geometry stripe in
     let sound : IsTask s task = act_sound s past e.stamp p c opened cdb row (length bytes) 0 task Diffs g.1 m.act in
     let by : (task.kind ≡ Update) × (p ≡ task.target) = differs-update s task p m.act.of_task in
     absurd ((writes-size s task sound (inl by.0)).0
     (sym by.1 ∙ ap (parity_of s.geometry) (within-stripe s task stripe r j sound at h k) ∙ sym sound.parity))
-diff-at_parity s e past stripe r c opened cdb row bytes sent dropped task set g at q here m (Beside beside) old =
+diff-at_parity s e past stripe r c opened cdb row bytes sent dropped back task set g at q here m (Beside beside) old =
     same-sum s e past stripe r
-    (parity-here s e past p r (Diff c opened cdb row bytes sent dropped) here q
+    (parity-here s e past p r (Diff c opened cdb row bytes sent dropped back) here q
     ∙ put-beside s (media s p past) bytes task row r sound m.act.at_row m.act.whole (media-size s p past g.1) beside)
-    (diff-data_kept s e past stripe r c opened cdb row bytes sent dropped task set g at q
+    (diff-data_kept s e past stripe r c opened cdb row bytes sent dropped back task set g at q
     (act_task s past e.stamp p c opened cdb row (length bytes) 0 task Diffs g.1 m.act) beside)
-    (outstanding-diff_beside s stripe r c opened cdb row bytes sent dropped e past q (hit-beside s task row (length bytes) r set m.act.at_row m.act.whole beside)) old
+    (outstanding-diff_beside s stripe r c opened cdb row bytes sent dropped back e past q (hit-beside s task row (length bytes) r set m.act.at_row m.act.whole beside)) old
   where
     p : ℕ
     p = parity_of s.geometry stripe
@@ -214,8 +214,8 @@ sum-here : (s : Setting) (e : Entry) (past : List Entry) (stripe r : ℕ) (event
     xor (stands s (e ∷ past) (parity_of s.geometry stripe) r) (data_sum s (e ∷ past) stripe r) ≡ owed_sum s (e ∷ past) stripe r
 sum-here s e past stripe r (Put command opened cdb row bytes names) set g kept at q here m there =
     put-at_parity s e past stripe r command opened cdb row bytes names m.0 set g kept at q here m m.1 (row_falls m.0 r) (kept.summed stripe r at there)
-sum-here s e past stripe r (Diff command opened cdb row bytes sent dropped) set g kept at q here m there =
-    diff-at_parity s e past stripe r command opened cdb row bytes sent dropped m.0 set g at q here m.1 (row_falls m.0 r) (kept.summed stripe r at there)
+sum-here s e past stripe r (Diff command opened cdb row bytes sent dropped back) set g kept at q here m there =
+    diff-at_parity s e past stripe r command opened cdb row bytes sent dropped back m.0 set g at q here m.1 (row_falls m.0 r) (kept.summed stripe r at there)
 sum-here s e past stripe r (Fold command opened cdb row bytes names) set g kept at q here m there =
     fold-at_parity s e past stripe r command opened cdb row bytes names m.1.0 m.0 set g at q here m.1.1 (row_falls m.0 r) (kept.summed stripe r at there)
 sum-here s e past stripe r (Fresh call swap) set g kept at q here m there =
@@ -262,19 +262,19 @@ diffed-in b parity old rest new owed size size_new e =
 parity-else : (s : Setting) (e : Entry) (past : List Entry) (p r : ℕ) → (e.lock ≡ p + 1 → ⊥) → stands s (e ∷ past) p r ≡ stands s past p r
 parity-else s e past p r away = ap (λ (l : List ℕ). block_at s.geometry.block l r) (media-else s p e past away)
 
-diff-over : (s : Setting) (e : Entry) (past : List Entry) (stripe r j i c : ℕ) (opened : At) (cdb : Cdb) (row : ℕ) (bytes : List ℕ) (sent dropped : Bool) (task : Task) →
-    IsSetting s → Grows s (e ∷ past) → Kept s past → IsRowOf s.geometry stripe r → e.event ≡ Diff c opened cdb row bytes sent dropped → e.lock ≡ i + 1 →
-    (e.lock ≡ parity_of s.geometry stripe + 1 → ⊥) → MayDiff s past e.stamp i c opened cdb row bytes sent dropped task →
-    IsWrite s past c task e.lock (Diff c opened cdb row bytes sent dropped) → stripe ≡ task.stripe → i ≡ task.target → j < task.count → r ≡ task.row + j →
+diff-over : (s : Setting) (e : Entry) (past : List Entry) (stripe r j i c : ℕ) (opened : At) (cdb : Cdb) (row : ℕ) (bytes : List ℕ) (sent dropped back : Bool) (task : Task) →
+    IsSetting s → Grows s (e ∷ past) → Kept s past → IsRowOf s.geometry stripe r → e.event ≡ Diff c opened cdb row bytes sent dropped back → e.lock ≡ i + 1 →
+    (e.lock ≡ parity_of s.geometry stripe + 1 → ⊥) → MayDiff s past e.stamp i c opened cdb row bytes sent dropped back task →
+    IsWrite s past c task e.lock (Diff c opened cdb row bytes sent dropped back) → stripe ≡ task.stripe → i ≡ task.target → j < task.count → r ≡ task.row + j →
     xor (stands s past (parity_of s.geometry stripe) r) (data_sum s past stripe r) ≡ owed_sum s past stripe r →
     xor (stands s (e ∷ past) (parity_of s.geometry stripe) r) (data_sum s (e ∷ past) stripe r) ≡ owed_sum s (e ∷ past) stripe r
-diff-over s e past stripe r j i c opened cdb row bytes sent dropped task set g kept at q here away m w same own h k old_sum =
+diff-over s e past stripe r j i c opened cdb row bytes sent dropped back task set g kept at q here away m w same own h k old_sum =
     ap (λ (x : List ℕ). xor x (data_sum s (e ∷ past) stripe r)) (parity-else s e past p r away)
     ∙ ap (xor (stands s past p r)) changed
     ∙ diffed-in s.geometry.block (stands s past p r) old rest new (owed_sum s past stripe r) (length-known s past stripe i r set g.1 at.in_array below other) size_new
     (ap (xor (stands s past p r)) (sym unchanged) ∙ old_sum)
     ∙ sym (ap (λ (l : List Delta). xor_all s.geometry.block (delta_blocks l))
-    (outstanding-diff s stripe r i c opened cdb row bytes sent dropped e past set g here q (hit-within s task row (length bytes) r j set m.act.at_row m.act.whole h k))
+    (outstanding-diff s stripe r i c opened cdb row bytes sent dropped back e past set g here q (hit-within s task row (length bytes) r j set m.act.at_row m.act.whole h k))
     ∙ ap (λ (x : List ℕ). xor x (owed_sum s past stripe r)) item)
   where
     p : ℕ
@@ -325,44 +325,44 @@ diff-over s e past stripe r j i c opened cdb row bytes sent dropped task set g k
         offset a from at_row y x z = omega arith
 
     event : Event
-    event = Diff c opened cdb row bytes sent dropped
+    event = Diff c opened cdb row bytes sent dropped back
 
-    written : known_in s (sectors_with s past (Diff c opened cdb row bytes sent dropped)) stripe i r ≡ block_at s.geometry.block bytes j
+    written : known_in s (sectors_with s past (Diff c opened cdb row bytes sent dropped back)) stripe i r ≡ block_at s.geometry.block bytes j
     written =
-        known-at s (sectors_with s past (Diff c opened cdb row bytes sent dropped)) stripe i r task.stripe task.target (task.row + j) same own k
-        ∙ known-written s past c task e.lock (Diff c opened cdb row bytes sent dropped) j set g.1 w h
+        known-at s (sectors_with s past (Diff c opened cdb row bytes sent dropped back)) stripe i r task.stripe task.target (task.row + j) same own k
+        ∙ known-written s past c task e.lock (Diff c opened cdb row bytes sent dropped back) j set g.1 w h
         ∙ ap (λ (l : List ℕ). block_at s.geometry.block l j) (sym m.written)
 
     changed : data_sum s (e ∷ past) stripe r ≡ xor (block_at s.geometry.block bytes j) rest
     changed =
         data-by_targets s (sectors s.geometry (e ∷ past)) stripe r set
         ∙ ap (λ (x : Event). data_sum_in s (sectors_with s past x) stripe r) q
-        ∙ apart (sectors_with s past (Diff c opened cdb row bytes sent dropped))
+        ∙ apart (sectors_with s past (Diff c opened cdb row bytes sent dropped back))
         ∙ ap (λ (x : List ℕ). xor x (sum_where s.geometry.block (but (is_data s stripe) i)
-        (λ y. known_in s (sectors_with s past (Diff c opened cdb row bytes sent dropped)) stripe y r) 0 s.geometry.targets)) written
+        (λ y. known_in s (sectors_with s past (Diff c opened cdb row bytes sent dropped back)) stripe y r) 0 s.geometry.targets)) written
         ∙ ap (xor (block_at s.geometry.block bytes j))
-        (sum-blocks s.geometry.block (but (is_data s stripe) i) (λ y. known_in s (sectors_with s past (Diff c opened cdb row bytes sent dropped)) stripe y r)
+        (sum-blocks s.geometry.block (but (is_data s stripe) i) (λ y. known_in s (sectors_with s past (Diff c opened cdb row bytes sent dropped back)) stripe y r)
         (λ y. known s past stripe y r) s.geometry.targets 0
-        (λ y low high t. known-beside s past c task e.lock (Diff c opened cdb row bytes sent dropped) stripe y r set g.1 w at (omega arith)
+        (λ y low high t. known-beside s past c task e.lock (Diff c opened cdb row bytes sent dropped back) stripe y r set g.1 w at (omega arith)
         (is-data s stripe y (and_parts (is_data s stripe y) (not (y == i)) t).0)
         (λ st ow z a b. false≢true (sym (ap not (eq-eqb y i (ow ∙ sym own))) ∙ (and_parts (is_data s stripe y) (not (y == i)) t).1))))
 
-diff-away : (s : Setting) (e : Entry) (past : List Entry) (stripe r i c : ℕ) (opened : At) (cdb : Cdb) (row : ℕ) (bytes : List ℕ) (sent dropped : Bool) (task : Task) →
-    IsSetting s → Grows s (e ∷ past) → Kept s past → IsRowOf s.geometry stripe r → e.event ≡ Diff c opened cdb row bytes sent dropped → e.lock ≡ i + 1 →
-    (e.lock ≡ parity_of s.geometry stripe + 1 → ⊥) → MayTarget s past e.stamp i (Diff c opened cdb row bytes sent dropped) →
-    MayDiff s past e.stamp i c opened cdb row bytes sent dropped task → Falls task r →
+diff-away : (s : Setting) (e : Entry) (past : List Entry) (stripe r i c : ℕ) (opened : At) (cdb : Cdb) (row : ℕ) (bytes : List ℕ) (sent dropped back : Bool) (task : Task) →
+    IsSetting s → Grows s (e ∷ past) → Kept s past → IsRowOf s.geometry stripe r → e.event ≡ Diff c opened cdb row bytes sent dropped back → e.lock ≡ i + 1 →
+    (e.lock ≡ parity_of s.geometry stripe + 1 → ⊥) → MayTarget s past e.stamp i (Diff c opened cdb row bytes sent dropped back) →
+    MayDiff s past e.stamp i c opened cdb row bytes sent dropped back task → Falls task r →
     xor (stands s past (parity_of s.geometry stripe) r) (data_sum s past stripe r) ≡ owed_sum s past stripe r →
     xor (stands s (e ∷ past) (parity_of s.geometry stripe) r) (data_sum s (e ∷ past) stripe r) ≡ owed_sum s (e ∷ past) stripe r
-diff-away s e past stripe r i c opened cdb row bytes sent dropped task set g kept at q here away may m (Within j h k) old =
-    let w : IsWrite s past c task e.lock (Diff c opened cdb row bytes sent dropped) =
-    diff-write s past e.stamp i e.lock c opened cdb row bytes sent dropped task g.1 may here m.act in
-    diff-over s e past stripe r j i c opened cdb row bytes sent dropped task set g kept at q here away m w (within-stripe s task stripe r j w.sound at h k)
+diff-away s e past stripe r i c opened cdb row bytes sent dropped back task set g kept at q here away may m (Within j h k) old =
+    let w : IsWrite s past c task e.lock (Diff c opened cdb row bytes sent dropped back) =
+    diff-write s past e.stamp i e.lock c opened cdb row bytes sent dropped back task g.1 may here m.act in
+    diff-over s e past stripe r j i c opened cdb row bytes sent dropped back task set g kept at q here away m w (within-stripe s task stripe r j w.sound at h k)
     (differs-update s task i m.act.of_task).1 h k old
-diff-away s e past stripe r i c opened cdb row bytes sent dropped task set g kept at q here away may m (Beside beside) old =
+diff-away s e past stripe r i c opened cdb row bytes sent dropped back task set g kept at q here away may m (Beside beside) old =
     same-sum s e past stripe r (parity-else s e past (parity_of s.geometry stripe) r away)
-    (diff-data_kept s e past stripe r c opened cdb row bytes sent dropped task set g at q
+    (diff-data_kept s e past stripe r c opened cdb row bytes sent dropped back task set g at q
     (act_task s past e.stamp i c opened cdb row (length bytes) 0 task Diffs g.1 m.act) beside)
-    (outstanding-diff_beside s stripe r c opened cdb row bytes sent dropped e past q (hit-beside s task row (length bytes) r set m.act.at_row m.act.whole beside)) old
+    (outstanding-diff_beside s stripe r c opened cdb row bytes sent dropped back e past q (hit-beside s task row (length bytes) r set m.act.at_row m.act.whole beside)) old
 
 -- a put of another target: where it tells a write of the stripe on this row, its parity isn't there
 put-away : (s : Setting) (e : Entry) (past : List Entry) (stripe r i c : ℕ) (opened : At) (cdb : Cdb) (row : ℕ) (bytes : List ℕ) (names : List At) (task : Task) →
@@ -399,10 +399,10 @@ sum-away s e past stripe r (Put command opened cdb row bytes names) set g kept a
     act-lock s past e.stamp e.lock command Puts (Put command opened cdb row bytes names) m (eq-eqb command command refl) in
     put-away s e past stripe r t.0 command opened cdb row bytes names t.1.1.0 set g at q t.1.0 away t.1.1 t.1.1.1 (puts-by s t.1.1.0 t.0 t.1.1.1.act.of_task) there
     (kept.summed stripe r at there)
-sum-away s e past stripe r (Diff command opened cdb row bytes sent dropped) set g kept at q away m there =
-    let t : (i : ℕ) × ((e.lock ≡ i + 1) × MayTarget s past e.stamp i (Diff command opened cdb row bytes sent dropped)) =
-    act-lock s past e.stamp e.lock command Diffs (Diff command opened cdb row bytes sent dropped) m (eq-eqb command command refl) in
-    diff-away s e past stripe r t.0 command opened cdb row bytes sent dropped t.1.1.0 set g kept at q t.1.0 away t.1.1 t.1.1.1 (row_falls t.1.1.0 r)
+sum-away s e past stripe r (Diff command opened cdb row bytes sent dropped back) set g kept at q away m there =
+    let t : (i : ℕ) × ((e.lock ≡ i + 1) × MayTarget s past e.stamp i (Diff command opened cdb row bytes sent dropped back)) =
+    act-lock s past e.stamp e.lock command Diffs (Diff command opened cdb row bytes sent dropped back) m (eq-eqb command command refl) in
+    diff-away s e past stripe r t.0 command opened cdb row bytes sent dropped back t.1.1.0 set g kept at q t.1.0 away t.1.1 t.1.1.1 (row_falls t.1.1.0 r)
     (kept.summed stripe r at there)
 sum-away s e past stripe r (Fold command opened cdb row bytes names) set g kept at q away m there =
     same-sum s e past stripe r (parity-else s e past (parity_of s.geometry stripe) r away)

@@ -42,7 +42,7 @@ both_ways b h k = cc
 
 abbrev update_taken : Cdb → Cdb → List Entry
 update_taken diff take =
-    entry 3 1 (Take 0 (at 1 0) take 0 block) ∷ entry 2 1 (Diff 0 (at 1 0) diff 0 block false false) ∷ entry 1 0 (Open 0 write_task) ∷ []
+    entry 3 1 (Take 0 (at 1 0) take 0 block) ∷ entry 2 1 (Diff 0 (at 1 0) diff 0 block false false false) ∷ entry 1 0 (Open 0 write_task) ∷ []
 
 pub unfolded-stays_open : UnfoldedStaysOpen
 unfolded-stays_open diff take stamp names None bytes (later, (task, (open_with, close))) =

@@ -1,6 +1,7 @@
 -- The journals before the entries that may not follow are runs.
 use Rattle.std.specs.Prelude.{◌≡◌, ◌==◌, ℕ, true, false, List, [], ◌∷◌, Some}
 use Rattle.std.proofs.Common.{refl, inr, lit<, lit≤}
+use Rattle.stripe_layout.specs.declared.mode.Mode.TheVariants.{Supervised}
 use Rattle.sbc_cdbs.specs.declared.descriptor.Cdb.{Cdb}
 use Rattle.array_journal.specs.declared.entry.Entry.{Entry}
 use Rattle.array_journal.specs.declared.event.Event.TheVariants.{Diff, Take, Gone, Open, Close, Note}
@@ -50,7 +51,7 @@ beside_update-runs diff d = (
   (
     (refl, (refl, (lit< tt, record { says_life = refl; says_owners = refl }))),
     (
-      (refl, (refl, (lit< tt, (write_task, record { act = record { opening = (refl, lit< tt); in_book = refl; of_task = refl; not_gone = refl; not_shut = refl; once = refl; same_life = refl; at_row = refl; whole = refl; spelt = d }; written = refl; sent_by_mode = refl; dropped_when_due = refl })))),
+      (refl, (refl, (lit< tt, (write_task, record { act = record { opening = (refl, lit< tt); in_book = refl; of_task = refl; not_gone = refl; not_shut = refl; once = refl; same_life = refl; at_row = refl; whole = refl; spelt = d }; written = refl; sent_by_mode = refl; back_by_mode = refl; dropped_when_due = refl })))),
       (
         (tt, (refl, record { numbered = refl; sound = write_sound; decided = refl; alone = refl; room = refl })),
         tt,
@@ -93,7 +94,7 @@ spoilt-runs diff d = (
       (
         (refl, (refl, (lit< tt, record { says_life = refl; says_owners = refl }))),
         (
-          (refl, (refl, (lit< tt, (old_task, record { act = record { opening = (refl, lit< tt); in_book = refl; of_task = refl; not_gone = refl; not_shut = refl; once = refl; same_life = refl; at_row = refl; whole = refl; spelt = d }; written = refl; sent_by_mode = refl; dropped_when_due = refl })))),
+          (refl, (refl, (lit< tt, (old_task, record { act = record { opening = (refl, lit< tt); in_book = refl; of_task = refl; not_gone = refl; not_shut = refl; once = refl; same_life = refl; at_row = refl; whole = refl; spelt = d }; written = refl; sent_by_mode = refl; back_by_mode = refl; dropped_when_due = refl })))),
           (
             (tt, (refl, record { numbered = refl; sound = old_sound; decided = refl; alone = refl; room = refl })),
             tt,
@@ -109,7 +110,7 @@ abbrev parity_lost : Cdb → Cdb → List Entry
 parity_lost diff take =
     entry 5 0 (Note 2 (at 1 3))
     ∷ entry 4 1 (Take 0 (at 2 0) take 0 (1 ∷ []))
-    ∷ entry 3 1 (Diff 0 (at 2 0) diff 0 (1 ∷ []) false false)
+    ∷ entry 3 1 (Diff 0 (at 2 0) diff 0 (1 ∷ []) false false false)
     ∷ entry 2 0 (Open 0 old_task)
     ∷ entry 1 3 (Gone 0 2 []) ∷ []
 
@@ -131,13 +132,13 @@ may-close_unfolded diff take = (
   ),
 )
   where
-    none : (act : Act) → ((i : ℕ) → acts_at false act Update old_task i ≡ false) →
+    none : (act : Act) → ((i : ℕ) → acts_at Supervised act Update old_task i ≡ false) →
         AllNamed tiny (parity_lost diff take) 0 old_task act (at 3 1 ∷ at 4 1 ∷ [])
-    none act never = all_named-none tiny (parity_lost diff take) 0 old_task act (at 3 1 ∷ at 4 1 ∷ []) Update false refl refl never
+    none act never = all_named-none tiny (parity_lost diff take) 0 old_task act (at 3 1 ∷ at 4 1 ∷ []) Update Supervised refl refl never
 
-    one : (act : Act) → ((i : ℕ) → acts_at false act Update old_task i ≡ (i == 0)) →
+    one : (act : Act) → ((i : ℕ) → acts_at Supervised act Update old_task i ≡ (i == 0)) →
         is_named (parity_lost diff take) 0 act 0 (at 3 1 ∷ at 4 1 ∷ []) ≡ true → AllNamed tiny (parity_lost diff take) 0 old_task act (at 3 1 ∷ at 4 1 ∷ [])
-    one act only named = all_named-one tiny (parity_lost diff take) 0 old_task act (at 3 1 ∷ at 4 1 ∷ []) Update false 0 refl refl only named
+    one act only named = all_named-one tiny (parity_lost diff take) 0 old_task act (at 3 1 ∷ at 4 1 ∷ []) Update Supervised 0 refl refl only named
 
     acts : NamesActs tiny (parity_lost diff take) 6 0 old_task (at 3 1 ∷ at 4 1 ∷ [])
     acts = record {
@@ -165,7 +166,7 @@ parity_replaced-runs diff take d t = (
         (
           (refl, (refl, (lit< tt, (old_task, record { act = record { opening = (refl, lit< tt); in_book = refl; of_task = refl; not_gone = refl; not_shut = refl; once = refl; same_life = refl; at_row = refl; whole = refl; spelt = t }; taken = refl })))),
           (
-            (refl, (refl, (lit< tt, (old_task, record { act = record { opening = (refl, lit< tt); in_book = refl; of_task = refl; not_gone = refl; not_shut = refl; once = refl; same_life = refl; at_row = refl; whole = refl; spelt = d }; written = refl; sent_by_mode = refl; dropped_when_due = refl })))),
+            (refl, (refl, (lit< tt, (old_task, record { act = record { opening = (refl, lit< tt); in_book = refl; of_task = refl; not_gone = refl; not_shut = refl; once = refl; same_life = refl; at_row = refl; whole = refl; spelt = d }; written = refl; sent_by_mode = refl; back_by_mode = refl; dropped_when_due = refl })))),
             (
               (refl, (refl, record { numbered = refl; sound = old_sound; decided = refl; alone = refl; room = refl })),
               (

@@ -2,6 +2,7 @@
 use Rattle.std.specs.Prelude.{◌≡◌, ◌==◌, ◌&&◌, nat_lt, not, ◌⊎◌, ℕ, true, false, List, [], ◌∷◌, Some, None}
 use Rattle.std.proofs.Common.{refl, sym, subst, arith, inl, inr, lit<, lit≤}
 use Rattle.std.proofs.lemmas.Bool.Decides.{nat_tests}
+use Rattle.stripe_layout.specs.declared.mode.Mode.TheVariants.{Supervised}
 use Rattle.sbc_cdbs.specs.declared.descriptor.Cdb.{Cdb}
 use Rattle.array_journal.specs.declared.entry.Entry.{Entry}
 use Rattle.array_journal.specs.declared.task.Kind.TheVariants.{Read, Update, DegradedRead}
@@ -26,9 +27,9 @@ may-open_write = (refl, record { numbered = refl; sound = sound; decided = refl;
       by_kind = ((λ e. cc), refl);
     }
 
-may-diff : (diff : Cdb) → SpellsAct small write_task 0 Diffs diff →
-    May small (entry 1 0 (Open 0 write_task) ∷ []) (entry 2 1 (Diff 0 (at 1 0) diff 0 block false false))
-may-diff diff spelt = (refl, (lit< tt, (write_task, record { act = act; written = refl; sent_by_mode = refl; dropped_when_due = refl })))
+pub may-diff : (diff : Cdb) → SpellsAct small write_task 0 Diffs diff →
+    May small (entry 1 0 (Open 0 write_task) ∷ []) (entry 2 1 (Diff 0 (at 1 0) diff 0 block false false false))
+may-diff diff spelt = (refl, (lit< tt, (write_task, record { act = act; written = refl; sent_by_mode = refl; back_by_mode = refl; dropped_when_due = refl })))
   where
     act : MayAct small (entry 1 0 (Open 0 write_task) ∷ []) 2 0 0 (at 1 0) diff 0 8 0 write_task Diffs
     act = record {
@@ -45,7 +46,7 @@ may-diff diff spelt = (refl, (lit< tt, (write_task, record { act = act; written 
     }
 
 abbrev diffed : Cdb → List Entry
-diffed diff = entry 2 1 (Diff 0 (at 1 0) diff 0 block false false) ∷ entry 1 0 (Open 0 write_task) ∷ []
+diffed diff = entry 2 1 (Diff 0 (at 1 0) diff 0 block false false false) ∷ entry 1 0 (Open 0 write_task) ∷ []
 
 may-take : (diff take : Cdb) → SpellsAct small write_task 0 Takes take → May small (diffed diff) (entry 3 1 (Take 0 (at 1 0) take 0 block))
 may-take diff take spelt = (refl, (lit< tt, (write_task, record { act = act; taken = refl })))
@@ -89,15 +90,15 @@ may-fold diff take fold spelt =
 may-close_write : (diff take fold : Cdb) → May small (written diff take fold) (entry 5 0 (Close 0 true (at 2 1 ∷ at 3 1 ∷ at 4 3 ∷ []) None []))
 may-close_write diff take fold = (refl, (write_task, ((refl, refl), record { acts = acts; folds = one Folds 2 (λ i. refl) refl; no_cause = refl; answer = refl })))
   where
-    none : (act : Act) → ((i : ℕ) → acts_at false act Update write_task i ≡ false) →
+    none : (act : Act) → ((i : ℕ) → acts_at Supervised act Update write_task i ≡ false) →
         AllNamed small (written diff take fold) 0 write_task act (at 2 1 ∷ at 3 1 ∷ at 4 3 ∷ [])
-    none act never = all_named-none small (written diff take fold) 0 write_task act (at 2 1 ∷ at 3 1 ∷ at 4 3 ∷ []) Update false refl refl never
+    none act never = all_named-none small (written diff take fold) 0 write_task act (at 2 1 ∷ at 3 1 ∷ at 4 3 ∷ []) Update Supervised refl refl never
 
-    one : (act : Act) (target : ℕ) → ((i : ℕ) → acts_at false act Update write_task i ≡ (i == target)) →
+    one : (act : Act) (target : ℕ) → ((i : ℕ) → acts_at Supervised act Update write_task i ≡ (i == target)) →
         is_named (written diff take fold) 0 act target (at 2 1 ∷ at 3 1 ∷ at 4 3 ∷ []) ≡ true →
         AllNamed small (written diff take fold) 0 write_task act (at 2 1 ∷ at 3 1 ∷ at 4 3 ∷ [])
     one act target only named =
-        all_named-one small (written diff take fold) 0 write_task act (at 2 1 ∷ at 3 1 ∷ at 4 3 ∷ []) Update false target refl refl only named
+        all_named-one small (written diff take fold) 0 write_task act (at 2 1 ∷ at 3 1 ∷ at 4 3 ∷ []) Update Supervised target refl refl only named
 
     acts : NamesActs small (written diff take fold) 5 0 write_task (at 2 1 ∷ at 3 1 ∷ at 4 3 ∷ [])
     acts = record {
@@ -155,14 +156,14 @@ may-close_read : (diff take fold fetch : Cdb) → May small (fetched_read diff t
 may-close_read diff take fold fetch =
     (refl, (read_task, ((refl, refl), record { acts = acts; folds = none Folds (λ i. refl); no_cause = refl; answer = refl })))
   where
-    none : (act : Act) → ((i : ℕ) → acts_at false act Read read_task i ≡ false) → AllNamed small (fetched_read diff take fold fetch) 1 read_task act (at 7 1 ∷ [])
-    none act never = all_named-none small (fetched_read diff take fold fetch) 1 read_task act (at 7 1 ∷ []) Read false refl refl never
+    none : (act : Act) → ((i : ℕ) → acts_at Supervised act Read read_task i ≡ false) → AllNamed small (fetched_read diff take fold fetch) 1 read_task act (at 7 1 ∷ [])
+    none act never = all_named-none small (fetched_read diff take fold fetch) 1 read_task act (at 7 1 ∷ []) Read Supervised refl refl never
 
     acts : NamesActs small (fetched_read diff take fold fetch) 8 1 read_task (at 7 1 ∷ [])
     acts = record {
       in_order = tt;
       only = ((refl, lit< tt), tt);
-      fetches = all_named-one small (fetched_read diff take fold fetch) 1 read_task Fetches (at 7 1 ∷ []) Read false 0 refl refl (λ i. refl) refl;
+      fetches = all_named-one small (fetched_read diff take fold fetch) 1 read_task Fetches (at 7 1 ∷ []) Read Supervised 0 refl refl (λ i. refl) refl;
       puts = none Puts (λ i. refl);
       diffs = none Diffs (λ i. refl);
       takes = none Takes (λ i. refl);
@@ -327,9 +328,9 @@ may-close_degraded : (second third : Cdb) → May small (third_fetched second th
 may-close_degraded second third =
     (refl, (degraded_read, ((refl, refl), record { acts = acts; folds = none Folds (λ i. refl); no_cause = refl; answer = refl })))
   where
-    none : (act : Act) → ((i : ℕ) → acts_at false act DegradedRead degraded_read i ≡ false) →
+    none : (act : Act) → ((i : ℕ) → acts_at Supervised act DegradedRead degraded_read i ≡ false) →
         AllNamed small (third_fetched second third) 1 degraded_read act (at 7 2 ∷ at 8 3 ∷ [])
-    none act never = all_named-none small (third_fetched second third) 1 degraded_read act (at 7 2 ∷ at 8 3 ∷ []) DegradedRead false refl refl never
+    none act never = all_named-none small (third_fetched second third) 1 degraded_read act (at 7 2 ∷ at 8 3 ∷ []) DegradedRead Supervised refl refl never
 
     is_fetched : (i : ℕ) → (i ≡ 1) ⊎ (i ≡ 2) → is_named (third_fetched second third) 1 Fetches i (at 7 2 ∷ at 8 3 ∷ []) ≡ true
     is_fetched i (inl e) = subst (λ (k : ℕ). is_named (third_fetched second third) 1 Fetches k (at 7 2 ∷ at 8 3 ∷ []) ≡ true) (sym e) refl

@@ -1,9 +1,10 @@
 -- A supervised update over a quiet journal leaves it quiet.
-use Rattle.std.specs.Prelude.{◌≡◌, ◌==◌, ℕ, suc, ◌+◌, ◌*◌, false, List, [], ◌∷◌, length}
+use Rattle.std.specs.Prelude.{◌≡◌, ◌==◌, ℕ, suc, ◌+◌, ◌*◌, List, [], ◌∷◌, length}
 use Rattle.std.proofs.Common.{refl, ap, sym, ◌∙◌, arith, subst, inl, inr}
 use Rattle.std.proofs.lemmas.Bool.{eq-eqb, ne_eqb, cases_eq, or_left}
 use Rattle.blocks_core.specs.Xor.{xor}
 use Rattle.blocks_core.proofs.XorLaws.{length-xor}
+use Rattle.stripe_layout.specs.declared.mode.Mode.TheVariants.{Supervised}
 use Rattle.sbc_cdbs.specs.declared.descriptor.Cdb.{Cdb}
 use Rattle.stripe_layout.specs.Layout.{rows_of}
 use Rattle.array_journal.specs.declared.entry.Entry.{Entry}
@@ -13,7 +14,7 @@ use Rattle.array_journal.specs.declared.task.Task.{Task}
 use Rattle.array_journal.specs.Lists.{slice, put}
 use Rattle.array_journal.specs.Entries.{some_at}
 use Rattle.array_journal.specs.Commands.{opens, ends_command, open_count}
-use Rattle.array_journal.specs.Acts.{is_third_party, task_bytes}
+use Rattle.array_journal.specs.Acts.{task_bytes}
 use Rattle.array_journal.specs.Media.{media, medium_after, held, take_rows, HeldBlocks}
 use Rattle.array_journal.specs.May.{IsTask}
 use Rattle.array_journal.specs.Run.{NoneOpen}
@@ -122,7 +123,7 @@ update-media_size s past task diff take fold u i =
     size = length-media-taken s past task diff take u i
 
 -- the journal is quiet again
-pub update-quiet : (s : Setting) (past : List Entry) (task : Task) (diff take fold : Cdb) → is_third_party s.mode ≡ false →
+pub update-quiet : (s : Setting) (past : List Entry) (task : Task) (diff take fold : Cdb) → s.mode ≡ Supervised →
     Quiet s past → IsTask s task → task.kind ≡ Update → Quiet s (update_entries s past task diff take fold)
 update-quiet s past task diff take fold supervised q sound kind = record {
   entries = update-calm s past task diff take fold q;

@@ -4,6 +4,8 @@ use Rattle.std.proofs.Common.{refl, ap, sym, ◌∙◌, arith, subst}
 use Rattle.std.proofs.lemmas.Bool.{eq-eqb}
 use Rattle.blocks_core.specs.Xor.{xor}
 use Rattle.blocks_core.proofs.XorLaws.{length-xor}
+use Rattle.stripe_layout.specs.declared.mode.Mode.TheVariants.{Supervised}
+use Rattle.stripe_layout.specs.Modes.{sends_delta, hands_delta_back}
 use Rattle.sbc_cdbs.specs.declared.descriptor.Cdb.{Cdb}
 use Rattle.sbc_cdbs.specs.Cdbs.{Spells, cdb_bytes}
 use Rattle.array_journal.specs.declared.at.At.{At}
@@ -17,7 +19,7 @@ use Rattle.array_journal.specs.declared.task.Task.{Task}
 use Rattle.array_journal.specs.Lists.{slice}
 use Rattle.array_journal.specs.Entries.{entry_at, some_at}
 use Rattle.array_journal.specs.Commands.{open_count, is_open, task_of}
-use Rattle.array_journal.specs.Acts.{Act, Fetches, Puts, Diffs, Takes, Folds, Holds, acts_at, is_act, is_third_party, task_bytes, cdb_of}
+use Rattle.array_journal.specs.Acts.{Act, Fetches, Puts, Diffs, Takes, Folds, Holds, acts_at, is_act, task_bytes, cdb_of}
 use Rattle.array_journal.specs.Media.{media, held, rows_on, rows_held, HeldBlocks}
 use Rattle.array_journal.specs.May.{May, MayDiff, MayTake, MayFold, IsFoldSource, IsTask, IsTaskOfKind, NamesActs, AllNamed, EachOwn, closed_bytes}
 use Rattle.array_journal.specs.Run.{IsSetting, Grows}
@@ -33,7 +35,7 @@ use Rattle.array_journal.proofs.ReadRuns.{length-rows_on}
 
 -- an update of a supervised array over a quiet journal
 pub record CanUpdate (s : Setting) (past : List Entry) (task : Task) : Type 0 where
-  pub supervised : is_third_party s.mode ≡ false
+  pub supervised : s.mode ≡ Supervised
   pub quiet : Quiet s past
   pub sound : IsTask s task
   pub kind : task.kind ≡ Update
@@ -99,15 +101,16 @@ may-diff s past task diff u spelt = (
   may-target s (opened_past past task) (length past + 2) task.target (diff_entry past task diff).event u.sound.target (task, found),
 )
   where
-    found : MayDiff s (opened_past past task) (length past + 2) task.target (open_count past) (opened_name past) diff task.row task.bytes false false task
+    found : MayDiff s (opened_past past task) (length past + 2) task.target (open_count past) (opened_name past) diff task.row task.bytes false false false task
     found = record {
       act = act-calm s (opened_past past task) (length past + 2) task.target (open_count past) (length past + 1) (suc (open_count past)) (opened_name past)
           diff (length task.bytes) task Diffs (opened-calm s past task u.quiet) (opened-stands past task) (omega arith) refl
-          (has-there s Diffs task Update false task.target u.kind u.supervised u.sound.target (eq-eqb task.target task.target refl))
+          (has-there s Diffs task Update Supervised task.target u.kind u.supervised u.sound.target (eq-eqb task.target task.target refl))
           (opened-once s past task (task.target + 1) (is_act Diffs (open_count past)) u.quiet refl (calm-no_diffs (open_count past)))
           (update-task s past task u).1 spelt;
       written = refl;
-      sent_by_mode = sym u.supervised;
+      sent_by_mode = sym (ap sends_delta u.supervised);
+      back_by_mode = sym (ap hands_delta_back u.supervised);
       dropped_when_due = refl;
     }
 
@@ -144,7 +147,7 @@ may-take s past task diff take u spelt = (
     found = record {
       act = act-calm s (diffed_past past task diff) (length past + 3) task.target (open_count past) (length past + 2) (suc (open_count past)) (opened_name past)
           take (length (update_delta s past task)) task Takes (diffed-calm s past task diff u.quiet) (diffed-opened past task diff) (omega arith) refl
-          (has-there s Takes task Update false task.target u.kind u.supervised u.sound.target (eq-eqb task.target task.target refl)) once
+          (has-there s Takes task Update Supervised task.target u.kind u.supervised u.sound.target (eq-eqb task.target task.target refl)) once
           (length-update_delta s past task u) spelt;
       taken = ap (λ (h : List HeldBlocks). rows_held s.geometry.block (open_count past) task.row (length (update_delta s past task)) h)
           (held-diffed s past task diff u.quiet)
@@ -185,7 +188,7 @@ may-fold s past task diff take fold u spelt = (
       act = act-calm s (taken_past s past task diff take) (length past + 4) task.parity (open_count past) (length past + 3) (suc (open_count past))
           (opened_name past) fold (length (update_delta s past task)) task Folds (taken-calm s past task diff take u.quiet)
           (taken-opened s past task diff take) (omega arith) refl
-          (has-there s Folds task Update false task.parity u.kind u.supervised (parity-target s task u.sound) (eq-eqb task.parity task.parity refl)) once
+          (has-there s Folds task Update Supervised task.parity u.kind u.supervised (parity-target s task u.sound) (eq-eqb task.parity task.parity refl)) once
           (length-update_delta s past task u) spelt;
       one = refl;
       at_source = refl;
@@ -221,17 +224,17 @@ update-own s past task diff take fold u = (
   names-own s whole (length past + 5) (open_count past) task task.target (diff_name past task) (diff_entry past task diff).event refl (omega arith)
       (folded-diff s past task diff take fold)
       (own-diffs s (open_count past) task task.target (diff_entry past task diff).event
-      (has-there s Diffs task Update false task.target u.kind u.supervised u.sound.target (eq-eqb task.target task.target refl)) same),
+      (has-there s Diffs task Update Supervised task.target u.kind u.supervised u.sound.target (eq-eqb task.target task.target refl)) same),
   (
     names-own s whole (length past + 5) (open_count past) task task.target (take_name past task) (take_entry s past task take).event refl (omega arith)
         (folded-take s past task diff take fold)
         (own-takes s (open_count past) task task.target (take_entry s past task take).event
-        (has-there s Takes task Update false task.target u.kind u.supervised u.sound.target (eq-eqb task.target task.target refl)) same),
+        (has-there s Takes task Update Supervised task.target u.kind u.supervised u.sound.target (eq-eqb task.target task.target refl)) same),
     (
       names-own s whole (length past + 5) (open_count past) task task.parity (fold_name past task) (fold_entry s past task fold).event refl (omega arith)
           (folded-fold s past task diff take fold)
           (own-folds s (open_count past) task task.parity (fold_entry s past task fold).event
-          (has-there s Folds task Update false task.parity u.kind u.supervised (parity-target s task u.sound) (eq-eqb task.parity task.parity refl)) same),
+          (has-there s Folds task Update Supervised task.parity u.kind u.supervised (parity-target s task u.sound) (eq-eqb task.parity task.parity refl)) same),
       tt,
     ),
   ),
@@ -250,12 +253,12 @@ update-acts s past task diff take fold u = record {
   only = update-own s past task diff take fold u;
   fetches = unnamed Fetches (λ i. refl);
   puts = unnamed Puts (λ i. refl);
-  diffs = all_named-one s (folded_past s past task diff take fold) (open_count past) task Diffs (update_names past task) Update false task.target
+  diffs = all_named-one s (folded_past s past task diff take fold) (open_count past) task Diffs (update_names past task) Update Supervised task.target
       u.kind u.supervised (λ i. refl)
       (named-here (folded_past s past task diff take fold) (open_count past) Diffs task.target (diff_name past task)
       (take_name past task ∷ fold_name past task ∷ []) (diff_entry past task diff).event refl (folded-diff s past task diff take fold)
       (eq-eqb (open_count past) (open_count past) refl));
-  takes = all_named-one s (folded_past s past task diff take fold) (open_count past) task Takes (update_names past task) Update false task.target
+  takes = all_named-one s (folded_past s past task diff take fold) (open_count past) task Takes (update_names past task) Update Supervised task.target
       u.kind u.supervised (λ i. refl)
       (named-later (folded_past s past task diff take fold) (open_count past) Takes task.target (diff_name past task)
       (take_name past task ∷ fold_name past task ∷ [])
@@ -265,15 +268,15 @@ update-acts s past task diff take fold u = record {
   holds = unnamed Holds (λ i. refl);
 }
   where
-    unnamed : (act : Act) → ((i : ℕ) → acts_at false act Update task i ≡ false) →
+    unnamed : (act : Act) → ((i : ℕ) → acts_at Supervised act Update task i ≡ false) →
         AllNamed s (folded_past s past task diff take fold) (open_count past) task act (update_names past task)
     unnamed act never =
-        all_named-none s (folded_past s past task diff take fold) (open_count past) task act (update_names past task) Update false u.kind u.supervised never
+        all_named-none s (folded_past s past task diff take fold) (open_count past) task act (update_names past task) Update Supervised u.kind u.supervised never
 
 update-folds : (s : Setting) (past : List Entry) (task : Task) (diff take fold : Cdb) → CanUpdate s past task →
     AllNamed s (folded_past s past task diff take fold) (open_count past) task Folds (update_names past task)
 update-folds s past task diff take fold u =
-    all_named-one s whole (open_count past) task Folds (update_names past task) Update false task.parity u.kind u.supervised (λ i. refl)
+    all_named-one s whole (open_count past) task Folds (update_names past task) Update Supervised task.parity u.kind u.supervised (λ i. refl)
     (named-later whole (open_count past) Folds task.parity (diff_name past task) (take_name past task ∷ fold_name past task ∷ [])
     (named-later whole (open_count past) Folds task.parity (take_name past task) (fold_name past task ∷ [])
     (named-here whole (open_count past) Folds task.parity (fold_name past task) [] (fold_entry s past task fold).event refl
@@ -316,7 +319,7 @@ may-close_update s past task diff take fold u = (
 )
 
 -- the entries of an update go on the run
-pub update-grows : (s : Setting) (past : List Entry) (task : Task) (diff take fold : Cdb) → IsSetting s → is_third_party s.mode ≡ false →
+pub update-grows : (s : Setting) (past : List Entry) (task : Task) (diff take fold : Cdb) → IsSetting s → s.mode ≡ Supervised →
     Quiet s past → Grows s past → IsTask s task → task.kind ≡ Update → task.count ≤ s.buffer →
     Spells (cdb_bytes diff) (cdb_of s task 0 Diffs) → Spells (cdb_bytes take) (cdb_of s task 0 Takes) → Spells (cdb_bytes fold) (cdb_of s task 0 Folds) →
     Grows s (update_entries s past task diff take fold)

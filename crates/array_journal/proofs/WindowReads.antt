@@ -4,6 +4,8 @@ use Rattle.std.specs.Prelude.{◌≡◌, ◌≢◌, ◌==◌, ◌&&◌, ◌<◌,
 use Rattle.std.proofs.Common.{refl, ap, sym, ◌∙◌, arith, subst, inl, inr}
 use Rattle.std.proofs.lemmas.Bool.{eq-eqb, ne_eqb, eqb-true, eqb-false, ltb-true, lt-ltb, cases_eq, and_parts, not-true, false≢true, cond-true, cond-false}
 use Rattle.blocks_core.specs.Xor.{xor, xor_all}
+use Rattle.stripe_layout.specs.declared.mode.Mode.{Mode}
+use Rattle.stripe_layout.specs.Modes.{target_gathers}
 use Rattle.stripe_layout.specs.Layout.{parity_of}
 use Rattle.sbc_cdbs.specs.declared.descriptor.Cdb.{Cdb}
 use Rattle.array_journal.specs.declared.at.At.{At}
@@ -17,7 +19,7 @@ use Rattle.array_journal.specs.declared.task.Task.{Task}
 use Rattle.array_journal.specs.Lists.{slice, block_at}
 use Rattle.array_journal.specs.Entries.{entry_at}
 use Rattle.array_journal.specs.Commands.{is_shared}
-use Rattle.array_journal.specs.Acts.{Act, Fetches, Holds, gatherer, acts_at, has_act, is_third_party, is_act, task_bytes}
+use Rattle.array_journal.specs.Acts.{Act, Fetches, Holds, gatherer, acts_at, has_act, is_act, task_bytes}
 use Rattle.array_journal.specs.Media.{media, rows_on}
 use Rattle.array_journal.specs.Lives.{is_absent}
 use Rattle.array_journal.specs.Listed.{listed_for}
@@ -43,7 +45,7 @@ owed_sum s past stripe r = xor_all s.geometry.block (delta_blocks (outstanding s
 
 -- the bytes of a hold
 abbrev pub held_bytes : Option Event → List ℕ
-held_bytes (Some (Hold command opened cdb row bytes kept names)) = bytes
+held_bytes (Some (Hold command opened cdb row bytes kept names back)) = bytes
 held_bytes _ = []
 
 -- What holds after each entry of a run: data units that are there stand as the hosts know them; where parity is there,
@@ -68,41 +70,41 @@ pub data ReadsBy (task : Task) (i : ℕ) : Type 0 where
 not-equal : (i d : ℕ) → not (i == d) ≡ true → i ≢ d
 not-equal i d h = eqb-false i d (not-true (i == d) h)
 
-fetches-kind : (third : Bool) (kind : Kind) (task : Task) (i : ℕ) → task.kind ≡ kind → is_shared kind ≡ false → acts_at third Fetches kind task i ≡ true → ReadsBy task i
-fetches-kind third Read task i k alone h = absurd (false≢true (sym alone))
-fetches-kind third Update task i k alone h = absurd (false≢true (sym alone))
-fetches-kind third DataOnly task i k alone h = absurd (false≢true (sym alone))
-fetches-kind third DegradedRead task i k alone h =
-    reads_others k (not-equal i task.target (and_parts (not (i == task.target)) (not (third && (i == gatherer task))) h).0)
-fetches-kind third DegradedWrite task i k alone h =
+fetches-kind : (mode : Mode) (kind : Kind) (task : Task) (i : ℕ) → task.kind ≡ kind → is_shared kind ≡ false → acts_at mode Fetches kind task i ≡ true → ReadsBy task i
+fetches-kind mode Read task i k alone h = absurd (false≢true (sym alone))
+fetches-kind mode Update task i k alone h = absurd (false≢true (sym alone))
+fetches-kind mode DataOnly task i k alone h = absurd (false≢true (sym alone))
+fetches-kind mode DegradedRead task i k alone h =
+    reads_others k (not-equal i task.target (and_parts (not (i == task.target)) (not (target_gathers mode && (i == gatherer task))) h).0)
+fetches-kind mode DegradedWrite task i k alone h =
     let parts : (not (i == task.target) ≡ true) × (not (i == task.parity) ≡ true) = and_parts (not (i == task.target)) (not (i == task.parity)) h in
     reads_data k (not-equal i task.target parts.0) (not-equal i task.parity parts.1)
-fetches-kind third Rebuild task i k alone h = reads_units k (not-equal i task.target h)
-fetches-kind third Resync task i k alone h = reads_all_data k (not-equal i task.parity h)
+fetches-kind mode Rebuild task i k alone h = reads_units k (not-equal i task.target h)
+fetches-kind mode Resync task i k alone h = reads_all_data k (not-equal i task.parity h)
 
 pub fetches-by : (s : Setting) (task : Task) (i : ℕ) → is_shared task.kind ≡ false → has_act s Fetches task i ≡ true → ReadsBy task i
-fetches-by s task i alone h = fetches-kind (is_third_party s.mode) task.kind task i refl alone (acts-there s Fetches task i h)
+fetches-by s task i alone h = fetches-kind s.mode task.kind task i refl alone (acts-there s Fetches task i h)
 
 -- a hold is a degraded read's, at the target that gathers
 pub record HoldsBy (s : Setting) (task : Task) (i : ℕ) : Type 0 where
   pub of_kind : task.kind ≡ DegradedRead
-  pub third : is_third_party s.mode ≡ true
+  pub mode : target_gathers s.mode ≡ true
   pub gathers : i ≡ gatherer task
 
-holds-kind : (s : Setting) (third : Bool) (kind : Kind) (task : Task) (i : ℕ) → task.kind ≡ kind → is_third_party s.mode ≡ third → acts_at third Holds kind task i ≡ true →
+holds-kind : (s : Setting) (mode : Mode) (kind : Kind) (task : Task) (i : ℕ) → task.kind ≡ kind → s.mode ≡ mode → acts_at mode Holds kind task i ≡ true →
     HoldsBy s task i
-holds-kind s third DegradedRead task i k t h =
-    let parts : (third ≡ true) × ((i == gatherer task) ≡ true) = and_parts third (i == gatherer task) h in
-    record { of_kind = k; third = t ∙ parts.0; gathers = eqb-true i (gatherer task) parts.1 }
-holds-kind s third Read task i k t h = absurd (false≢true h)
-holds-kind s third Update task i k t h = absurd (false≢true h)
-holds-kind s third DataOnly task i k t h = absurd (false≢true h)
-holds-kind s third DegradedWrite task i k t h = absurd (false≢true h)
-holds-kind s third Rebuild task i k t h = absurd (false≢true h)
-holds-kind s third Resync task i k t h = absurd (false≢true h)
+holds-kind s mode DegradedRead task i k t h =
+    let parts : (target_gathers mode ≡ true) × ((i == gatherer task) ≡ true) = and_parts (target_gathers mode) (i == gatherer task) h in
+    record { of_kind = k; mode = ap target_gathers t ∙ parts.0; gathers = eqb-true i (gatherer task) parts.1 }
+holds-kind s mode Read task i k t h = absurd (false≢true h)
+holds-kind s mode Update task i k t h = absurd (false≢true h)
+holds-kind s mode DataOnly task i k t h = absurd (false≢true h)
+holds-kind s mode DegradedWrite task i k t h = absurd (false≢true h)
+holds-kind s mode Rebuild task i k t h = absurd (false≢true h)
+holds-kind s mode Resync task i k t h = absurd (false≢true h)
 
 pub holds-by : (s : Setting) (task : Task) (i : ℕ) → has_act s Holds task i ≡ true → HoldsBy s task i
-holds-by s task i h = holds-kind s (is_third_party s.mode) task.kind task i refl refl (acts-there s Holds task i h)
+holds-by s task i h = holds-kind s s.mode task.kind task i refl refl (acts-there s Holds task i h)
 
 gatherer-other : (task : Task) → gatherer task ≢ task.target
 gatherer-other task e = elim (cases_eq task.target 0) [
@@ -183,7 +185,7 @@ rows-block s i past row len j task at whole h =
     ∙ block_at-slice s.geometry.block (media s i past) task.row task.count j h
 
 pub below-targets : (s : Setting) (act : Act) (task : Task) (i : ℕ) → has_act s act task i ≡ true → i < s.geometry.targets
-below-targets s act task i h = ltb-true i s.geometry.targets (and_parts (nat_lt i s.geometry.targets) (acts_at (is_third_party s.mode) act task.kind task i) h).0
+below-targets s act task i h = ltb-true i s.geometry.targets (and_parts (nat_lt i s.geometry.targets) (acts_at s.mode act task.kind task i) h).0
 
 -- a fetch reads what its target is read as
 pub fetch-read : (s : Setting) (past : List Entry) (stamp i c j : ℕ) (task : Task) (event : Event) → IsSetting s → Grows s past → Kept s past → RunsAlone c task past →
@@ -221,16 +223,16 @@ fetched-sum s past stamp c j len task names kept alone n whole h =
 
 -- a target's test for fetching, below the number of targets
 pub fetches-test : (s : Setting) (task : Task) (kind : Kind) (x : ℕ) → task.kind ≡ kind → x < s.geometry.targets →
-    has_act s Fetches task x ≡ acts_at (is_third_party s.mode) Fetches kind task x
+    has_act s Fetches task x ≡ acts_at s.mode Fetches kind task x
 fetches-test s task kind x k below =
-    ap (λ (b : Bool). b && acts_at (is_third_party s.mode) Fetches task.kind task x) (lt-ltb x s.geometry.targets below)
-    ∙ ap (λ (y : Kind). acts_at (is_third_party s.mode) Fetches y task x) k
+    ap (λ (b : Bool). b && acts_at s.mode Fetches task.kind task x) (lt-ltb x s.geometry.targets below)
+    ∙ ap (λ (y : Kind). acts_at s.mode Fetches y task x) k
 
 -- a hold gathers the missing unit
-pub hold-gathers : (s : Setting) (past : List Entry) (stamp i c j : ℕ) (opened : At) (cdb : Cdb) (row : ℕ) (bytes : List ℕ) (kept_here : Bool) (names : List At) (task : Task) →
-    IsSetting s → Grows s past → Kept s past → RunsAlone c task past → MayHold s past stamp i c opened cdb row bytes kept_here names task → j < task.count →
+pub hold-gathers : (s : Setting) (past : List Entry) (stamp i c j : ℕ) (opened : At) (cdb : Cdb) (row : ℕ) (bytes : List ℕ) (kept_here : Bool) (names : List At) (back : Bool) (task : Task) →
+    IsSetting s → Grows s past → Kept s past → RunsAlone c task past → MayHold s past stamp i c opened cdb row bytes kept_here names back task → j < task.count →
     block_at s.geometry.block bytes j ≡ known s past task.stripe task.target (task.row + j)
-hold-gathers s past stamp i c j opened cdb row bytes kept_here names task set g kept alone m h =
+hold-gathers s past stamp i c j opened cdb row bytes kept_here names back task set g kept alone m h =
     ap (λ (l : List ℕ). block_at s.geometry.block l j) m.made
     ∙ block_at-xor s.geometry.block (rows_on s i past row (length bytes)) (xor_all (length bytes) (map (bytes_named past) names)) j
     ∙ ap (λ (x : List ℕ). xor x (block_at s.geometry.block (xor_all (length bytes) (map (bytes_named past) names)) j))
@@ -241,7 +243,7 @@ hold-gathers s past stamp i c j opened cdb row bytes kept_here names task set g 
     (fetched-sum s past stamp c j (length bytes) task names kept alone m.fetched m.act.whole h
     ∙ sum-tests s.geometry.block (has_act s Fetches task) (but (λ x. not (x == task.target)) i) (λ x. view s past task.stripe x (task.row + j)) s.geometry.targets 0
     (λ x low high. fetches-test s task DegradedRead x holds.of_kind (omega arith)
-    ∙ ap (λ (b : Bool). not (x == task.target) && not (b && (x == gatherer task))) holds.third
+    ∙ ap (λ (b : Bool). not (x == task.target) && not (b && (x == gatherer task))) holds.mode
     ∙ ap (λ (y : ℕ). not (x == task.target) && not (x == y)) (sym holds.gathers)))
     ∙ sym (sum-apart s.geometry.block (λ x. not (x == task.target)) (λ x. view s past task.stripe x (task.row + j)) i s.geometry.targets 0 (omega arith) (omega (arith, below))
     (ap not (ne_eqb i task.target other)))

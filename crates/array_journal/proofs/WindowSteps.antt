@@ -102,18 +102,18 @@ lost-still s c i j task e past set g alone has h =
 hold-read : (s : Setting) (past : List Entry) (stamp i c j : ℕ) (task : Task) (event : Event) → IsSetting s → Grows s past → Kept s past → RunsAlone c task past →
     MayTarget s past stamp i event → is_act Holds c event ≡ true → j < task.count →
     block_at s.geometry.block (held_bytes (Some event)) j ≡ known s past task.stripe task.target (task.row + j)
-hold-read s past stamp i c j task (Hold command opened cdb row bytes kept_here names) set g kept alone m h below =
+hold-read s past stamp i c j task (Hold command opened cdb row bytes kept_here names back) set g kept alone m h below =
     same_task command (eqb-true command c h) m.0 m.1
   where
-    same_task : (d : ℕ) → d ≡ c → (its : Task) → MayHold s past stamp i d opened cdb row bytes kept_here names its →
+    same_task : (d : ℕ) → d ≡ c → (its : Task) → MayHold s past stamp i d opened cdb row bytes kept_here names back its →
         block_at s.geometry.block bytes j ≡ known s past task.stripe task.target (task.row + j)
     same_task d same its f =
-        hold-gathers s past stamp i c j opened cdb row bytes kept_here names task set g kept alone
-        (subst (λ (x : Task). MayHold s past stamp i c opened cdb row bytes kept_here names x)
+        hold-gathers s past stamp i c j opened cdb row bytes kept_here names back task set g kept alone
+        (subst (λ (x : Task). MayHold s past stamp i c opened cdb row bytes kept_here names back x)
         (one_task its task (sym (act_task s past stamp i c opened cdb row _ _ its Holds g there.act) ∙ alone.its_task)) there) below
       where
-        there : MayHold s past stamp i c opened cdb row bytes kept_here names its
-        there = subst (λ (n : ℕ). MayHold s past stamp i n opened cdb row bytes kept_here names its) same f
+        there : MayHold s past stamp i c opened cdb row bytes kept_here names back its
+        there = subst (λ (n : ℕ). MayHold s past stamp i n opened cdb row bytes kept_here names back its) same f
 hold-read s past stamp i c j task _ set g kept alone m h below = absurd (false≢true h)
 
 pub gathered-step : (s : Setting) (e : Entry) (past : List Entry) → IsSetting s → Grows s (e ∷ past) → Kept s past →

@@ -1,6 +1,6 @@
 -- What is read of a stripe while a command that runs alone is open on it: of a data unit the blocks as hosts know them,
 -- of parity their exclusive-or. Both stand still but for the command's own write.
-use Rattle.std.specs.Prelude.{◌≡◌, ◌≢◌, ◌==◌, ◌&&◌, ◌<◌, ◌≤◌, ◌⊎◌, not, map, filter, ℕ, zero, suc, ◌+◌, ◌-◌, ◌*◌, Bool, true, false, List, [], ◌∷◌, length, if◌then◌else◌}
+use Rattle.std.specs.Prelude.{◌≡◌, ◌≢◌, ◌==◌, ◌&&◌, ◌<◌, ◌≤◌, ◌⊎◌, not, map, filter, ℕ, zero, suc, ◌+◌, ◌-◌, ◌*◌, Bool, true, false, List, [], ◌∷◌, length}
 use Rattle.std.proofs.Common.{refl, ap, sym, ◌∙◌, cond, arith, subst, inl, inr}
 use Rattle.std.proofs.lemmas.Bool.{eq-eqb, ne_eqb, eqb-false, cases_eq, and_parts, not-true, cond-true, cond-false}
 use Rattle.std.proofs.lemmas.List.{length-replicate}
@@ -16,8 +16,9 @@ use Rattle.array_journal.specs.Lists.{block_at, numbers}
 use Rattle.array_journal.specs.Entries.{entry_at}
 use Rattle.array_journal.specs.Commands.{task_of}
 use Rattle.array_journal.specs.May.{NamesAt, passes, bytes_named}
-use Rattle.array_journal.specs.Run.{IsSetting, Grows, IsRowOf, sectors, data_blocks}
+use Rattle.array_journal.specs.Run.{IsSetting, Grows, IsRowOf, sectors}
 use Rattle.array_journal.specs.Laws.{RunsAlone}
+pub use Rattle.array_journal.specs.Known.{data_sum, view}
 use Rattle.array_journal.proofs.CommandLaws.{one_task}
 use Rattle.array_journal.proofs.WindowLaws.{exclusive-alone}
 use Rattle.array_journal.proofs.BlockLists.{block_at-xor, block_at-zeros}
@@ -29,14 +30,6 @@ use Rattle.array_journal.proofs.KnownBlocks.{known_in, known, Tells, SectorStep,
 -- a target of a stripe that isn't its parity target
 abbrev pub is_data : Setting → ℕ → ℕ → Bool
 is_data s stripe i = not (i == parity_of s.geometry stripe)
-
--- the exclusive-or of the data on a row of a stripe, as the hosts know it
-abbrev pub data_sum : Setting → List Entry → ℕ → ℕ → List ℕ
-data_sum s past stripe r = xor_all s.geometry.block (data_blocks s.geometry past stripe r)
-
--- what a target is read as: a data unit as the hosts know it, parity as the exclusive-or of these
-abbrev pub view : Setting → List Entry → ℕ → ℕ → ℕ → List ℕ
-view s past stripe i r = if i == parity_of s.geometry stripe then data_sum s past stripe r else known s past stripe i r
 
 pub view-data : (s : Setting) (past : List Entry) (stripe i r : ℕ) → i ≢ parity_of s.geometry stripe → view s past stripe i r ≡ known s past stripe i r
 view-data s past stripe i r other = cond-false (i == parity_of s.geometry stripe) _ _ (ne_eqb i (parity_of s.geometry stripe) other)

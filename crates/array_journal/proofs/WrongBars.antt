@@ -7,7 +7,7 @@ use Rattle.array_journal.specs.declared.event.Why.TheVariants.{Medium, NotReady}
 use Rattle.array_journal.specs.declared.task.Kind.{Kind}
 use Rattle.array_journal.specs.declared.task.Kind.TheVariants.{Update, DataOnly, DegradedWrite}
 use Rattle.array_journal.specs.declared.task.Task.{Task}
-use Rattle.array_journal.specs.Acts.{Puts, acts_at, is_third_party, task_bytes}
+use Rattle.array_journal.specs.Acts.{Puts, acts_at, task_bytes}
 use Rattle.array_journal.specs.Decision.{Opens, Refuses, decision, want_of, missing_count}
 use Rattle.array_journal.specs.Listed.{is_listed}
 use Rattle.array_journal.specs.Lives.{is_missing}
@@ -19,6 +19,7 @@ use Rattle.array_journal.specs.Tried.{small, at, read_task}
 use Rattle.array_journal.specs.Wrong.{taken_out, reading, FoldsTheTaken, OneDiff, UpdatesApart, FetchesWhatStands, RewriteOwesZeros, UpdatesPutNothing, DataAloneWantsParityLost, ShutBarsTheFold}
 use Rattle.array_journal.proofs.Standing.{may-here}
 use Rattle.std.proofs.lemmas.Bool.{and_parts}
+use Rattle.stripe_layout.specs.declared.mode.Mode.{Mode}
 
 pub folds-the_taken : FoldsTheTaken
 folds-the_taken diff take fold stamp bytes (later, (below, (task, (name, may)))) =
@@ -48,9 +49,9 @@ pub rewrite-owes_zeros : RewriteOwesZeros
 rewrite-owes_zeros diff take fold again out = (refl, refl)
 
 -- no update puts
-puts-none : (third : Bool) (kind : Kind) (task : Task) (i : ℕ) → kind ≡ Update → acts_at third Puts kind task i ≡ true → ⊥
-puts-none third kind task i h k =
-    let none : false ≡ true = subst (λ (x : Kind). acts_at third Puts x task i ≡ true) h k in
+puts-none : (mode : Mode) (kind : Kind) (task : Task) (i : ℕ) → kind ≡ Update → acts_at mode Puts kind task i ≡ true → ⊥
+puts-none mode kind task i h k =
+    let none : false ≡ true = subst (λ (x : Kind). acts_at mode Puts x task i ≡ true) h k in
     cc
 
 pub updates-put_nothing : UpdatesPutNothing
@@ -58,8 +59,8 @@ updates-put_nothing s past task stamp i c row opened cdb bytes names opening upd
     let (own, may) = may-here s past stamp (i + 1) i (Put c opened cdb row bytes names) refl m in
     let same : task ≡ own = cc (opening, may.act.opening.0) in
     let kind : own.kind ≡ Update = ap (λ (t : Task). t.kind) (sym same) ∙ update in
-    puts-none (is_third_party s.mode) own.kind own i kind
-    (and_parts (nat_lt i s.geometry.targets) (acts_at (is_third_party s.mode) Puts own.kind own i) may.act.of_task).1
+    puts-none s.mode own.kind own i kind
+    (and_parts (nat_lt i s.geometry.targets) (acts_at s.mode Puts own.kind own i) may.act.of_task).1
 
 -- of the ways in which a write is served, data alone is that of a missing parity unit
 data_alone-lost : (listed two gone parity : Bool) →

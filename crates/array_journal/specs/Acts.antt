@@ -1,7 +1,8 @@
 -- The acts of commands: which command acts at which target, how, and by which CDB (SBC, the XOR commands).
 use Rattle.std.specs.Prelude.{◌==◌, ◌&&◌, ◌||◌, nat_lt, not, ℕ, ◌+◌, ◌*◌, Bool, true, false, List, filter, if◌then◌else◌}
 use Rattle.stripe_layout.specs.declared.mode.Mode.{Mode}
-use Rattle.stripe_layout.specs.declared.mode.Mode.TheVariants.{Supervised, ThirdParty}
+use Rattle.stripe_layout.specs.declared.mode.Mode.TheVariants.{Supervised, ThirdParty, Readback}
+use Rattle.stripe_layout.specs.Modes.{takes_delta, target_gathers}
 use Rattle.sbc_cdbs.specs.declared.commands.Command.{Command}
 use Rattle.sbc_cdbs.specs.declared.commands.Command.TheVariants as sbc
 use Rattle.array_journal.specs.declared.event.Event.{Event}
@@ -21,63 +22,60 @@ pub data Act : Type 0 where
   Folds : Act
   Holds : Act
 
-abbrev pub is_third_party : Mode → Bool
-is_third_party Supervised = false
-is_third_party ThirdParty = true
-
--- the target that gathers for a degraded read in third-party mode: the least one but the missing one
+-- the target that gathers for a degraded read, where a target does: the least one but the missing one
 abbrev pub gatherer : Task → ℕ
 gatherer task = if task.target == 0 then 1 else 0
 
--- Whether a command of this kind makes this act at a target i of the array. In third-party mode a degraded
--- read gathers at one target, which holds what is then taken from it.
-abbrev pub acts_at : Bool → Act → Kind → Task → ℕ → Bool
-acts_at third Fetches Read task i = i == task.target
-acts_at third Fetches DegradedRead task i = not (i == task.target) && not (third && (i == gatherer task))
-acts_at third Fetches DegradedWrite task i = not (i == task.target) && not (i == task.parity)
-acts_at third Fetches Rebuild task i = not (i == task.target)
-acts_at third Fetches Resync task i = not (i == task.parity)
-acts_at third Fetches Update task i = false
-acts_at third Fetches DataOnly task i = false
-acts_at third Puts DataOnly task i = i == task.target
-acts_at third Puts DegradedWrite task i = i == task.parity
-acts_at third Puts Resync task i = i == task.parity
-acts_at third Puts Rebuild task i = i == task.target
-acts_at third Puts Read task i = false
-acts_at third Puts Update task i = false
-acts_at third Puts DegradedRead task i = false
-acts_at third Diffs Update task i = i == task.target
-acts_at third Diffs Read task i = false
-acts_at third Diffs DataOnly task i = false
-acts_at third Diffs DegradedRead task i = false
-acts_at third Diffs DegradedWrite task i = false
-acts_at third Diffs Rebuild task i = false
-acts_at third Diffs Resync task i = false
-acts_at third Takes Update task i = not third && (i == task.target)
-acts_at third Takes DegradedRead task i = third && (i == gatherer task)
-acts_at third Takes Read task i = false
-acts_at third Takes DataOnly task i = false
-acts_at third Takes DegradedWrite task i = false
-acts_at third Takes Rebuild task i = false
-acts_at third Takes Resync task i = false
-acts_at third Folds Update task i = i == task.parity
-acts_at third Folds Read task i = false
-acts_at third Folds DataOnly task i = false
-acts_at third Folds DegradedRead task i = false
-acts_at third Folds DegradedWrite task i = false
-acts_at third Folds Rebuild task i = false
-acts_at third Folds Resync task i = false
-acts_at third Holds DegradedRead task i = third && (i == gatherer task)
-acts_at third Holds Read task i = false
-acts_at third Holds Update task i = false
-acts_at third Holds DataOnly task i = false
-acts_at third Holds DegradedWrite task i = false
-acts_at third Holds Rebuild task i = false
-acts_at third Holds Resync task i = false
+-- Whether a command of this kind makes this act at a target i of an array of this mode. An update's delta is taken
+-- only where the mode has it held. Where targets gather, a degraded read gathers at one of them, which holds what is
+-- then taken from it.
+abbrev pub acts_at : Mode → Act → Kind → Task → ℕ → Bool
+acts_at mode Fetches Read task i = i == task.target
+acts_at mode Fetches DegradedRead task i = not (i == task.target) && not (target_gathers mode && (i == gatherer task))
+acts_at mode Fetches DegradedWrite task i = not (i == task.target) && not (i == task.parity)
+acts_at mode Fetches Rebuild task i = not (i == task.target)
+acts_at mode Fetches Resync task i = not (i == task.parity)
+acts_at mode Fetches Update task i = false
+acts_at mode Fetches DataOnly task i = false
+acts_at mode Puts DataOnly task i = i == task.target
+acts_at mode Puts DegradedWrite task i = i == task.parity
+acts_at mode Puts Resync task i = i == task.parity
+acts_at mode Puts Rebuild task i = i == task.target
+acts_at mode Puts Read task i = false
+acts_at mode Puts Update task i = false
+acts_at mode Puts DegradedRead task i = false
+acts_at mode Diffs Update task i = i == task.target
+acts_at mode Diffs Read task i = false
+acts_at mode Diffs DataOnly task i = false
+acts_at mode Diffs DegradedRead task i = false
+acts_at mode Diffs DegradedWrite task i = false
+acts_at mode Diffs Rebuild task i = false
+acts_at mode Diffs Resync task i = false
+acts_at mode Takes Update task i = takes_delta mode && (i == task.target)
+acts_at mode Takes DegradedRead task i = target_gathers mode && (i == gatherer task)
+acts_at mode Takes Read task i = false
+acts_at mode Takes DataOnly task i = false
+acts_at mode Takes DegradedWrite task i = false
+acts_at mode Takes Rebuild task i = false
+acts_at mode Takes Resync task i = false
+acts_at mode Folds Update task i = i == task.parity
+acts_at mode Folds Read task i = false
+acts_at mode Folds DataOnly task i = false
+acts_at mode Folds DegradedRead task i = false
+acts_at mode Folds DegradedWrite task i = false
+acts_at mode Folds Rebuild task i = false
+acts_at mode Folds Resync task i = false
+acts_at mode Holds DegradedRead task i = target_gathers mode && (i == gatherer task)
+acts_at mode Holds Read task i = false
+acts_at mode Holds Update task i = false
+acts_at mode Holds DataOnly task i = false
+acts_at mode Holds DegradedWrite task i = false
+acts_at mode Holds Rebuild task i = false
+acts_at mode Holds Resync task i = false
 
 -- a command with this task makes this act at target i
 abbrev pub has_act : Setting → Act → Task → ℕ → Bool
-has_act s act task i = nat_lt i s.geometry.targets && acts_at (is_third_party s.mode) act task.kind task i
+has_act s act task i = nat_lt i s.geometry.targets && acts_at s.mode act task.kind task i
 
 -- a command with this task acts at target i
 abbrev pub is_target : Setting → Task → ℕ → Bool
@@ -105,17 +103,20 @@ is_data_only _ = false
 abbrev pub list_length : Setting → Task → ℕ → ℕ
 list_length s task sources = 4 + 16 * sources + (if is_degraded_write task.kind then task_bytes s task else 0)
 
+-- the command that writes the blocks of an update and makes its delta
+abbrev pub diff_command : Mode → Task → Command
+diff_command Supervised task = sbc.XdWrite false false false task.row task.count
+diff_command ThirdParty task = sbc.XdWriteExtended false false false task.row task.row task.count task.parity
+diff_command Readback task = sbc.XdWriteRead false false false task.row task.count
+
 -- the CDB of an act that rests on so many fetches, with DPO and FUA zero
 abbrev pub cdb_of : Setting → Task → ℕ → Act → Command
 cdb_of s task sources Fetches = sbc.Read false false task.row task.count
 cdb_of s task sources Puts =
-    if is_third_party s.mode && not (is_data_only task.kind)
+    if target_gathers s.mode && not (is_data_only task.kind)
     then sbc.Rebuild false false (is_degraded_write task.kind) task.row task.count (list_length s task sources)
     else sbc.Write false false task.row task.count
-cdb_of s task sources Diffs =
-    if is_third_party s.mode
-    then sbc.XdWriteExtended false false false task.row task.row task.count task.parity
-    else sbc.XdWrite false false false task.row task.count
+cdb_of s task sources Diffs = diff_command s.mode task
 cdb_of s task sources Takes = sbc.XdRead task.row task.count
 cdb_of s task sources Folds = sbc.XpWrite false false task.row task.count
 cdb_of s task sources Holds = sbc.Regenerate false false false task.row task.count (list_length s task sources)
@@ -124,10 +125,10 @@ cdb_of s task sources Holds = sbc.Regenerate false false false task.row task.cou
 abbrev pub is_act : Act → ℕ → Event → Bool
 is_act Fetches c (Fetch command opened cdb row bytes) = command == c
 is_act Puts c (Put command opened cdb row bytes names) = command == c
-is_act Diffs c (Diff command opened cdb row bytes sent dropped) = command == c
+is_act Diffs c (Diff command opened cdb row bytes sent dropped back) = command == c
 is_act Takes c (Take command opened cdb row bytes) = command == c
 is_act Folds c (Fold command opened cdb row bytes names) = command == c
-is_act Holds c (Hold command opened cdb row bytes kept names) = command == c
+is_act Holds c (Hold command opened cdb row bytes kept names back) = command == c
 is_act _ c _ = false
 
 -- the event shuts command c at a target

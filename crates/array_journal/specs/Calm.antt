@@ -13,7 +13,7 @@ use Rattle.array_journal.specs.Run.{Grows, NoneOpen}
 -- an event of a read or of a supervised update whose command is one of the first c
 abbrev pub IsCalmEvent : ℕ → Event → Type 0
 IsCalmEvent c (Fetch command opened cdb row bytes) = command < c
-IsCalmEvent c (Diff command opened cdb row bytes sent dropped) = (command < c) × (sent ≡ false)
+IsCalmEvent c (Diff command opened cdb row bytes sent dropped back) = (command < c) × (sent ≡ false)
 IsCalmEvent c (Take command opened cdb row bytes) = command < c
 IsCalmEvent c (Fold command opened cdb row bytes names) = command < c
 IsCalmEvent c (Open command task) = command < c

@@ -1,6 +1,7 @@
 -- What the book decides: how a piece is served, which commands stand in its way, and whether a buffer has room.
 use Rattle.std.specs.Prelude.{◌==◌, ◌&&◌, nat_le, not, ℕ, ◌+◌, Bool, true, false, List, [], ◌∷◌, Option, Some, None, length, if◌then◌else◌}
 use Rattle.stripe_layout.specs.Layout.{parity_of}
+use Rattle.stripe_layout.specs.Modes.{update_needs_room, target_gathers}
 use Rattle.array_journal.specs.declared.entry.Entry.{Entry}
 use Rattle.array_journal.specs.declared.event.Event.{Event}
 use Rattle.array_journal.specs.declared.event.Event.TheVariants.{Open}
@@ -10,7 +11,7 @@ use Rattle.array_journal.specs.declared.setting.Setting.{Setting}
 use Rattle.array_journal.specs.declared.task.Kind.{Kind}
 use Rattle.array_journal.specs.declared.task.Kind.TheVariants.{Read, Update, DataOnly, DegradedRead, DegradedWrite, Rebuild, Resync}
 use Rattle.array_journal.specs.declared.task.Task.{Task}
-use Rattle.array_journal.specs.Acts.{is_third_party, gatherer, targets_that}
+use Rattle.array_journal.specs.Acts.{gatherer, targets_that}
 use Rattle.array_journal.specs.Commands.{is_open, tasks_conflict}
 use Rattle.array_journal.specs.Listed.{is_listed}
 use Rattle.array_journal.specs.Lives.{is_missing, is_unfitted}
@@ -68,11 +69,11 @@ abbrev pub opens_conflict : List Entry → Task → Event → Bool
 opens_conflict whole task (Open command other) = is_open command whole && tasks_conflict task other
 opens_conflict whole task _ = false
 
--- where a command of this task holds blocks: an update that the controller moves at its target, a degraded read
+-- where a command of this task holds blocks: an update whose delta lies in a buffer at its target, a degraded read
 -- that a target gathers at that one
 abbrev pub holder_of : Setting → Kind → Task → Option ℕ
-holder_of s Update task = if is_third_party s.mode then None else Some task.target
-holder_of s DegradedRead task = if is_third_party s.mode then Some (gatherer task) else None
+holder_of s Update task = if update_needs_room s.mode then Some task.target else None
+holder_of s DegradedRead task = if target_gathers s.mode then Some (gatherer task) else None
 holder_of s _ task = None
 
 abbrev pub is_target_number : ℕ → Option ℕ → Bool

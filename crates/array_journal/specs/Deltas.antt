@@ -19,7 +19,7 @@ delta_of s i past row bytes = xor (rows_on s i past row (length bytes)) bytes
 
 -- the delta of an entry that is a diff at target i, over the entries before it
 abbrev pub delta_in : Setting → ℕ → List Entry → Event → Option (List ℕ)
-delta_in s i past (Diff command opened cdb row bytes sent dropped) = Some (delta_of s i past row bytes)
+delta_in s i past (Diff command opened cdb row bytes sent dropped back) = Some (delta_of s i past row bytes)
 delta_in s i past _ = None
 
 -- the delta of the diff at target i that has this name
@@ -49,7 +49,7 @@ puts_row s r _ = false
 -- the delta on row r of an event at target i over the entries before it, unless its command folded it in all
 -- these entries
 abbrev pub with_delta : Setting → List Entry → ℕ → List Entry → ℕ → Event → List Delta → List Delta
-with_delta s whole i past r (Diff command opened cdb row bytes sent dropped) older =
+with_delta s whole i past r (Diff command opened cdb row bytes sent dropped back) older =
     if covers s.geometry.block row (length bytes) r && not (has_acted Folds command whole)
     then record { command = command; block = block_at s.geometry.block (delta_of s i past row bytes) (r - row) } ∷ older
     else older

@@ -41,7 +41,7 @@ delta_wiped diff =
     entry 5 0 (Spoil 0 (at 2 1) (at 3 1) (at 4 3))
     ∷ entry 4 3 (Shut 0 (at 1 0) false None)
     ∷ entry 3 1 (Wiped Buffers 2 (0 ∷ []))
-    ∷ entry 2 1 (Diff 0 (at 1 0) diff 0 one_byte false false)
+    ∷ entry 2 1 (Diff 0 (at 1 0) diff 0 one_byte false false false)
     ∷ entry 1 0 (Open 0 old_task) ∷ []
 
 abbrev pub DeltaWipedRuns : Type 0
@@ -79,7 +79,7 @@ abbrev pub gathered : Cdb → Cdb → Cdb → List Entry
 gathered fetch hold take =
     entry 7 0 (Close 0 true (at 4 3 ∷ at 5 2 ∷ at 6 2 ∷ []) None zero_byte)
     ∷ entry 6 2 (Take 0 (at 3 0) take 0 zero_byte)
-    ∷ entry 5 2 (Hold 0 (at 3 0) hold 0 zero_byte true (at 4 3 ∷ []))
+    ∷ entry 5 2 (Hold 0 (at 3 0) hold 0 zero_byte true (at 4 3 ∷ []) false)
     ∷ entry 4 3 (Fetch 0 (at 3 0) fetch 0 zero_byte)
     ∷ entry 3 0 (Open 0 gather_task)
     ∷ entry 2 0 (Note 0 (at 1 1))

@@ -53,7 +53,7 @@ wrote_item g task = WroteItem task.call task.piece (task_lba g task) task.bytes
 abbrev pub told_by : Geometry → Event → Option Task → List HostItem
 told_by g (Fetch command opened cdb row bytes) (Some task) = if is_read task.kind then read_item g task bytes ∷ [] else []
 told_by g (Close command true names cause bytes) (Some task) = if is_degraded_read task.kind then read_item g task bytes ∷ [] else []
-told_by g (Diff command opened cdb row bytes sent dropped) (Some task) = wrote_item g task ∷ []
+told_by g (Diff command opened cdb row bytes sent dropped back) (Some task) = wrote_item g task ∷ []
 told_by g (Put command opened cdb row bytes names) (Some task) = if is_put_write task.kind then wrote_item g task ∷ [] else []
 told_by g (Refuse call piece why) task = RefusedItem call piece why ∷ []
 told_by g _ task = []
@@ -62,7 +62,7 @@ told_by g _ task = []
 abbrev pub teller : Event → Option ℕ
 teller (Fetch command opened cdb row bytes) = Some command
 teller (Close command done names cause bytes) = Some command
-teller (Diff command opened cdb row bytes sent dropped) = Some command
+teller (Diff command opened cdb row bytes sent dropped back) = Some command
 teller (Put command opened cdb row bytes names) = Some command
 teller _ = None
 

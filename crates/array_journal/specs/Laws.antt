@@ -2,6 +2,7 @@
 -- it, whether or not its name comes after all others.
 use Rattle.std.specs.Prelude.{◌≡◌, ◌≢◌, ◌==◌, ◌&&◌, ◌||◌, ◌+◌, ◌<◌, ◌≤◌, nat_le, not, ℕ, Bool, true, false, List, [], ◌∷◌, Some, length, take, filter, ◌↔◌, if◌then◌else◌}
 use Rattle.std.specs.List.{AllByRecursion}
+use Rattle.stripe_layout.specs.Modes.{takes_delta}
 use Rattle.array_journal.specs.declared.at.At.{At}
 use Rattle.array_journal.specs.declared.entry.Entry.{Entry}
 use Rattle.array_journal.specs.declared.event.Event.{Event}
@@ -10,7 +11,7 @@ use Rattle.array_journal.specs.declared.setting.Setting.{Setting}
 use Rattle.array_journal.specs.declared.task.Task.{Task}
 use Rattle.array_journal.specs.Entries.{name_of, same_at, at_lt, entry_at, some_at, count_at, count_before}
 use Rattle.array_journal.specs.Commands.{ends_command, open_count, is_open, task_of, is_shared}
-use Rattle.array_journal.specs.Acts.{Act, Diffs, Takes, is_act, shuts_command, is_third_party}
+use Rattle.array_journal.specs.Acts.{Act, Diffs, Takes, is_act, shuts_command}
 use Rattle.array_journal.specs.Media.{HeldBlocks, held, media, drops}
 use Rattle.array_journal.specs.Lives.{is_fresh, is_note_of, is_swap_of, is_unfitted, is_gone, life_of, loss_of, swap_count, is_noted, is_absent, is_missing}
 use Rattle.array_journal.specs.Listed.{listed_for}
@@ -154,7 +155,7 @@ releases c e = is_act Takes c e || shuts_command c e || discards c e
 -- a delta that the controller is to move is held exactly from its diff to its release
 abbrev pub DeltaHeldLaw : Type 0
 DeltaHeldLaw =
-    (s : Setting) (i c : ℕ) (past : List Entry) → IsSetting s → is_third_party s.mode ≡ false → Grows s past → some_at (i + 1) (is_act Diffs c) past ≡ true →
+    (s : Setting) (i c : ℕ) (past : List Entry) → IsSetting s → takes_delta s.mode ≡ true → Grows s past → some_at (i + 1) (is_act Diffs c) past ≡ true →
     has_owner c (held s i past) ≡ not (some_at (i + 1) (releases c) past)
 
 -- each beginning of a run is a run

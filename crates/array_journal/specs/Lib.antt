@@ -19,3 +19,11 @@ pub mod Tried
 pub mod Examples
 pub mod Laws
 pub mod Wrong
+pub mod Readback
+pub mod Joined
+pub mod Waiting
+pub mod HeldExactly
+pub mod Known
+pub mod Calls
+pub mod Served
+pub mod Guarded

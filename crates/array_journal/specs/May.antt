@@ -1,9 +1,11 @@
 -- Which entry may follow a journal. Each condition is about earlier entries of the entry's own lock, or about an
 -- entry that it names; past has the newest entry first.
 use Rattle.std.specs.List.{list_any}
-use Rattle.std.specs.Prelude.{◌≡◌, ◌==◌, ◌&&◌, ◌||◌, ◌<◌, ◌≤◌, ◌⊎◌, nat_lt, nat_le, ℕ, zero, suc, ◌+◌, ◌*◌, ◌≢◌, Bool, true, false, List, [], ◌∷◌, length, map, Option, Some, None, if◌then◌else◌}
+use Rattle.std.specs.Prelude.{◌≡◌, ◌==◌, ◌&&◌, ◌||◌, ◌<◌, ◌≤◌, ◌⊎◌, nat_lt, nat_le, not, ℕ, zero, suc, ◌+◌, ◌*◌, ◌≢◌, Bool, true, false, List, [], ◌∷◌, length, map, Option, Some, None, if◌then◌else◌}
 use Rattle.blocks_core.specs.Xor.{xor, xor_all}
+use Rattle.stripe_layout.specs.declared.mode.Mode.{Mode}
 use Rattle.stripe_layout.specs.Layout.{parity_of}
+use Rattle.stripe_layout.specs.Modes.{sends_delta, hands_delta_back, target_gathers}
 use Rattle.sbc_cdbs.specs.declared.descriptor.Cdb.{Cdb}
 use Rattle.sbc_cdbs.specs.Cdbs.{Spells, cdb_bytes}
 use Rattle.array_journal.specs.declared.at.At.{At}
@@ -18,7 +20,7 @@ use Rattle.array_journal.specs.declared.task.Kind.TheVariants.{Read, Update, Dat
 use Rattle.array_journal.specs.declared.task.Task.{Task}
 use Rattle.array_journal.specs.Entries.{at_lt, entry_at, some_at, count_before, stamps_below}
 use Rattle.array_journal.specs.Commands.{open_count, is_open, task_of}
-use Rattle.array_journal.specs.Acts.{Act, Fetches, Puts, Diffs, Takes, Folds, Holds, has_act, is_target, targets_that, is_third_party, task_bytes, cdb_of, is_act, shuts_command, changes_medium}
+use Rattle.array_journal.specs.Acts.{Act, Fetches, Puts, Diffs, Takes, Folds, Holds, has_act, is_target, targets_that, task_bytes, cdb_of, is_act, shuts_command, changes_medium}
 use Rattle.array_journal.specs.Media.{rows_on, held, rows_held, drops, owners_of}
 use Rattle.array_journal.specs.Lives.{is_gone, loss_of, life_of, swap_count, is_swap_of, is_unfitted}
 use Rattle.array_journal.specs.Deltas.{delta_at}
@@ -101,12 +103,13 @@ pub record MayPut (s : Setting) (past : List Entry) (stamp i c : ℕ) (opened : 
   pub fetched : NamesFetches s past stamp c task names
   pub made : bytes ≡ xor task.bytes (xor_all (length bytes) (map (bytes_named past) names))
 
--- Diff: the bytes are the task's; the delta is sent in third-party mode alone, and dropped where a request is to
--- be dropped here.
-pub record MayDiff (s : Setting) (past : List Entry) (stamp i c : ℕ) (opened : At) (cdb : Cdb) (row : ℕ) (bytes : List ℕ) (sent dropped : Bool) (task : Task) : Type 0 where
+-- Diff: the bytes are the task's; the mode says whether the delta is sent, and whether it is handed back; what is sent
+-- is dropped where a request is to be dropped here.
+pub record MayDiff (s : Setting) (past : List Entry) (stamp i c : ℕ) (opened : At) (cdb : Cdb) (row : ℕ) (bytes : List ℕ) (sent dropped back : Bool) (task : Task) : Type 0 where
   pub act : MayAct s past stamp i c opened cdb row (length bytes) 0 task Diffs
   pub written : bytes ≡ task.bytes
-  pub sent_by_mode : sent ≡ is_third_party s.mode
+  pub sent_by_mode : sent ≡ sends_delta s.mode
+  pub back_by_mode : back ≡ hands_delta_back s.mode
   pub dropped_when_due : dropped ≡ (sent && nat_lt 0 (drops i past))
 
 -- Take: the bytes are the rows as this command holds them here.
@@ -114,12 +117,17 @@ pub record MayTake (s : Setting) (past : List Entry) (stamp i c : ℕ) (opened :
   pub act : MayAct s past stamp i c opened cdb row (length bytes) 0 task Takes
   pub taken : rows_held s.geometry.block c row (length bytes) (held s i past) ≡ Some bytes
 
--- what a fold may rest on: a take of the command with these bytes, or in third-party mode a delta of it that was
--- sent and not dropped
+-- the delta of a diff is on its way to parity: the target sent it and no request was dropped, or the controller has
+-- it back
+abbrev pub is_under_way : Mode → Bool → Bool → Bool → Bool
+is_under_way mode sent dropped back = (sends_delta mode && sent && not dropped) || (hands_delta_back mode && back)
+
+-- what a fold may rest on: a take of the command with these bytes, or a diff of it whose delta they are and is on its
+-- way
 abbrev pub IsFoldSource : Setting → List Entry → ℕ → Task → At → List ℕ → Option Event → Type 0
 IsFoldSource s past c task name bytes (Some (Take command opened cdb row taken)) = (command ≡ c) × (taken ≡ bytes)
-IsFoldSource s past c task name bytes (Some (Diff command opened cdb row written sent dropped)) =
-    (is_third_party s.mode ≡ true) × (command ≡ c) × (sent ≡ true) × (dropped ≡ false) × (delta_at s task.target name past ≡ Some bytes)
+IsFoldSource s past c task name bytes (Some (Diff command opened cdb row written sent dropped back)) =
+    (is_under_way s.mode sent dropped back ≡ true) × (command ≡ c) × (delta_at s task.target name past ≡ Some bytes)
 IsFoldSource s past c task name bytes _ = ⊥
 
 -- Fold: it names the one entry at the task's target that its delta comes from.
@@ -130,10 +138,11 @@ pub record MayFold (s : Setting) (past : List Entry) (stamp i c : ℕ) (opened :
   pub earlier : name.stamp < stamp
   pub source : IsFoldSource s past c task name bytes (entry_at name past)
 
--- Hold: it is kept, and is the exclusive-or of what the named fetches read and of the medium's rows.
-pub record MayHold (s : Setting) (past : List Entry) (stamp i c : ℕ) (opened : At) (cdb : Cdb) (row : ℕ) (bytes : List ℕ) (kept : Bool) (names : List At) (task : Task) : Type 0 where
+-- Hold: it is kept and not handed back, and is the exclusive-or of what the named fetches read and of the medium's rows.
+pub record MayHold (s : Setting) (past : List Entry) (stamp i c : ℕ) (opened : At) (cdb : Cdb) (row : ℕ) (bytes : List ℕ) (kept : Bool) (names : List At) (back : Bool) (task : Task) : Type 0 where
   pub act : MayAct s past stamp i c opened cdb row (length bytes) (length names) task Holds
   pub kept_here : kept ≡ true
+  pub not_handed : back ≡ false
   pub fetched : NamesFetches s past stamp c task names
   pub made : bytes ≡ xor (rows_on s i past row (length bytes)) (xor_all (length bytes) (map (bytes_named past) names))
 
@@ -262,7 +271,7 @@ first_taken past (name ∷ names) = taken (entry_at name past) (first_taken past
 -- none
 abbrev pub answered : Setting → List Entry → Task → List At → List ℕ
 answered s past task names =
-    if is_third_party s.mode then first_taken past names
+    if target_gathers s.mode then first_taken past names
     else xor_all (task_bytes s task) (map (bytes_named past) names)
 
 abbrev pub closed_bytes : Setting → List Entry → Task → List At → Kind → List ℕ
@@ -321,7 +330,7 @@ MayClose s past stamp c false names (Some cause) bytes task = MayGiveUp s past s
 
 -- the event is a diff of the command whose request was dropped
 abbrev pub is_dropped_diff : ℕ → Event → Bool
-is_dropped_diff c (Diff command opened cdb row bytes sent true) = command == c
+is_dropped_diff c (Diff command opened cdb row bytes sent true back) = command == c
 is_dropped_diff c _ = false
 
 -- the event discarded what the command held
@@ -378,13 +387,13 @@ abbrev pub MayTarget : Setting → List Entry → ℕ → ℕ → Event → Type
 MayTarget s past stamp i (Fetch command opened cdb row bytes) = SomeTask (λ task. MayFetch s past stamp i command opened cdb row bytes task)
 MayTarget s past stamp i (Put command opened cdb row bytes names) =
     SomeTask (λ task. MayPut s past stamp i command opened cdb row bytes names task)
-MayTarget s past stamp i (Diff command opened cdb row bytes sent dropped) =
-    SomeTask (λ task. MayDiff s past stamp i command opened cdb row bytes sent dropped task)
+MayTarget s past stamp i (Diff command opened cdb row bytes sent dropped back) =
+    SomeTask (λ task. MayDiff s past stamp i command opened cdb row bytes sent dropped back task)
 MayTarget s past stamp i (Take command opened cdb row bytes) = SomeTask (λ task. MayTake s past stamp i command opened cdb row bytes task)
 MayTarget s past stamp i (Fold command opened cdb row bytes names) =
     SomeTask (λ task. (name : At) × MayFold s past stamp i command opened cdb row bytes names task name)
-MayTarget s past stamp i (Hold command opened cdb row bytes kept names) =
-    SomeTask (λ task. MayHold s past stamp i command opened cdb row bytes kept names task)
+MayTarget s past stamp i (Hold command opened cdb row bytes kept names back) =
+    SomeTask (λ task. MayHold s past stamp i command opened cdb row bytes kept names back task)
 MayTarget s past stamp i (Shut command opened acted lost) = SomeTask (λ task. MayShut s past stamp i command opened acted lost task)
 MayTarget s past stamp i (Gone life call commands) = MayGone s past i life commands
 MayTarget s past stamp i (Wiped what call commands) = MayWipe s past i what commands

@@ -20,10 +20,10 @@ pub data Owner : Type 0 where
 abbrev pub carries : Owner → Event → Bool
 carries (OfCommand c) (Fetch command opened cdb row bytes) = command == c
 carries (OfCommand c) (Put command opened cdb row bytes names) = command == c
-carries (OfCommand c) (Diff command opened cdb row bytes sent dropped) = command == c
+carries (OfCommand c) (Diff command opened cdb row bytes sent dropped back) = command == c
 carries (OfCommand c) (Take command opened cdb row bytes) = command == c
 carries (OfCommand c) (Fold command opened cdb row bytes names) = command == c
-carries (OfCommand c) (Hold command opened cdb row bytes kept names) = command == c
+carries (OfCommand c) (Hold command opened cdb row bytes kept names back) = command == c
 carries (OfCommand c) (Shut command opened acted lost) = command == c
 carries (OfCommand c) (Gone life call commands) = false
 carries (OfCommand c) (Wiped what call commands) = false
@@ -36,10 +36,10 @@ carries (OfCommand c) (Swap slot call) = false
 carries (OfCommand c) (Refuse call piece why) = false
 carries (OfCall k) (Fetch command opened cdb row bytes) = false
 carries (OfCall k) (Put command opened cdb row bytes names) = false
-carries (OfCall k) (Diff command opened cdb row bytes sent dropped) = false
+carries (OfCall k) (Diff command opened cdb row bytes sent dropped back) = false
 carries (OfCall k) (Take command opened cdb row bytes) = false
 carries (OfCall k) (Fold command opened cdb row bytes names) = false
-carries (OfCall k) (Hold command opened cdb row bytes kept names) = false
+carries (OfCall k) (Hold command opened cdb row bytes kept names back) = false
 carries (OfCall k) (Shut command opened acted lost) = false
 carries (OfCall k) (Gone life call commands) = false
 carries (OfCall k) (Wiped what call commands) = false

@@ -5,6 +5,7 @@
 use Rattle.std.specs.List.{AllByRecursion}
 use Rattle.std.specs.Prelude.{◌≡◌, ◌&&◌, ◌||◌, ◌<◌, ◌⊎◌, nat_lt, ℕ, zero, suc, ◌+◌, Bool, true, false, List, [], ◌∷◌, length, map, Option, Some, None}
 use Rattle.blocks_core.specs.Xor.{xor, xor_all}
+use Rattle.stripe_layout.specs.Modes.{sends_delta, hands_delta_back}
 use Rattle.sbc_cdbs.specs.declared.descriptor.Cdb.{Cdb}
 use Rattle.sbc_cdbs.specs.Cdbs.{Spells, cdb_bytes}
 use Rattle.array_journal.specs.declared.at.At.{At}
@@ -17,7 +18,7 @@ use Rattle.array_journal.specs.declared.task.Kind.TheVariants.{Update, DegradedR
 use Rattle.array_journal.specs.declared.task.Task.{Task}
 use Rattle.array_journal.specs.Entries.{entry_at, some_at, count_before, stamps_below}
 use Rattle.array_journal.specs.Commands.{open_count, task_of}
-use Rattle.array_journal.specs.Acts.{Act, Fetches, Puts, Diffs, Takes, Folds, Holds, has_act, is_target, targets_that, is_third_party, task_bytes, cdb_of, is_act, shuts_command, changes_medium}
+use Rattle.array_journal.specs.Acts.{Act, Fetches, Puts, Diffs, Takes, Folds, Holds, has_act, is_target, targets_that, task_bytes, cdb_of, is_act, shuts_command, changes_medium}
 use Rattle.array_journal.specs.Media.{rows_on, held, rows_held, drops}
 use Rattle.array_journal.specs.Lives.{is_gone, is_loss, loss_of, life_of, swap_count, is_swap_of, is_unfitted}
 use Rattle.array_journal.specs.Decision.{want_of, Opens, decision, opens_conflict, has_room}
@@ -67,11 +68,12 @@ pub record AskedPut (s : Setting) (past : List Entry) (i c : ℕ) (opened : At) 
   pub fetched : NamedAt past (fetched_targets s task) (is_act Fetches c) names
   pub made : bytes ≡ xor task.bytes (xor_all (length bytes) (map (bytes_named past) names))
 
--- asked of a diff: its bytes are the task's, and the mode says whether its delta is sent
-pub record AskedDiff (s : Setting) (past : List Entry) (i c : ℕ) (opened : At) (cdb : Cdb) (row : ℕ) (bytes : List ℕ) (sent : Bool) (task : Task) : Type 0 where
+-- asked of a diff: its bytes are the task's, and the mode says whether its delta is sent or handed back
+pub record AskedDiff (s : Setting) (past : List Entry) (i c : ℕ) (opened : At) (cdb : Cdb) (row : ℕ) (bytes : List ℕ) (sent back : Bool) (task : Task) : Type 0 where
   pub act : AskedAct s past i c opened cdb row (length bytes) 0 task Diffs
   pub written : bytes ≡ task.bytes
-  pub sent_by_mode : sent ≡ is_third_party s.mode
+  pub sent_by_mode : sent ≡ sends_delta s.mode
+  pub back_by_mode : back ≡ hands_delta_back s.mode
 
 -- found at a diff: whether a request is to be dropped here
 pub record FoundDiff (past : List Entry) (i : ℕ) (opened : At) (sent dropped : Bool) : Type 0 where
@@ -90,10 +92,11 @@ pub record AskedFold (s : Setting) (past : List Entry) (i c : ℕ) (opened : At)
   pub at_source : name.lock ≡ task.target + 1
   pub source : IsFoldSource s past c task name bytes (entry_at name past)
 
--- asked of a hold: it is kept, and names the fetches that it gathers
-pub record AskedHold (s : Setting) (past : List Entry) (i c : ℕ) (opened : At) (cdb : Cdb) (row : ℕ) (bytes : List ℕ) (kept : Bool) (names : List At) (task : Task) : Type 0 where
+-- asked of a hold: it is kept and not handed back, and names the fetches that it gathers
+pub record AskedHold (s : Setting) (past : List Entry) (i c : ℕ) (opened : At) (cdb : Cdb) (row : ℕ) (bytes : List ℕ) (kept : Bool) (names : List At) (back : Bool) (task : Task) : Type 0 where
   pub act : AskedAct s past i c opened cdb row (length bytes) (length names) task Holds
   pub kept_here : kept ≡ true
+  pub not_handed : back ≡ false
   pub fetched : NamedAt past (fetched_targets s task) (is_act Fetches c) names
 
 -- found at a hold: the medium's rows, exclusive-or what the named fetches read
@@ -223,14 +226,14 @@ abbrev pub AskedTarget : Setting → List Entry → ℕ → Event → Type 0
 AskedTarget s past i (Fetch command opened cdb row bytes) =
     SomeTask (λ task. AskedAct s past i command opened cdb row (length bytes) 0 task Fetches)
 AskedTarget s past i (Put command opened cdb row bytes names) = SomeTask (λ task. AskedPut s past i command opened cdb row bytes names task)
-AskedTarget s past i (Diff command opened cdb row bytes sent dropped) =
-    SomeTask (λ task. AskedDiff s past i command opened cdb row bytes sent task)
+AskedTarget s past i (Diff command opened cdb row bytes sent dropped back) =
+    SomeTask (λ task. AskedDiff s past i command opened cdb row bytes sent back task)
 AskedTarget s past i (Take command opened cdb row bytes) =
     SomeTask (λ task. AskedAct s past i command opened cdb row (length bytes) 0 task Takes)
 AskedTarget s past i (Fold command opened cdb row bytes names) =
     SomeTask (λ task. (name : At) × AskedFold s past i command opened cdb row bytes names task name)
-AskedTarget s past i (Hold command opened cdb row bytes kept names) =
-    SomeTask (λ task. AskedHold s past i command opened cdb row bytes kept names task)
+AskedTarget s past i (Hold command opened cdb row bytes kept names back) =
+    SomeTask (λ task. AskedHold s past i command opened cdb row bytes kept names back task)
 AskedTarget s past i (Shut command opened acted lost) = SomeTask (λ task. AskedShut s past i command opened task)
 AskedTarget s past i (Gone life call commands) = Unit {0}
 AskedTarget s past i (Wiped what call commands) = Unit {0}
@@ -254,10 +257,10 @@ FoundBook s past _ = ⊥
 abbrev pub FoundTarget : Setting → List Entry → ℕ → Event → Type 0
 FoundTarget s past i (Fetch command opened cdb row bytes) = FoundFetch s past i opened row bytes
 FoundTarget s past i (Put command opened cdb row bytes names) = FoundAct past i opened
-FoundTarget s past i (Diff command opened cdb row bytes sent dropped) = FoundDiff past i opened sent dropped
+FoundTarget s past i (Diff command opened cdb row bytes sent dropped back) = FoundDiff past i opened sent dropped
 FoundTarget s past i (Take command opened cdb row bytes) = FoundTake s past i command opened row bytes
 FoundTarget s past i (Fold command opened cdb row bytes names) = FoundAct past i opened
-FoundTarget s past i (Hold command opened cdb row bytes kept names) = FoundHold s past i opened row bytes names
+FoundTarget s past i (Hold command opened cdb row bytes kept names back) = FoundHold s past i opened row bytes names
 FoundTarget s past i (Shut command opened acted lost) = FoundShut past i command acted lost
 FoundTarget s past i (Gone life call commands) = MayGone s past i life commands
 FoundTarget s past i (Wiped what call commands) = MayWipe s past i what commands
@@ -277,10 +280,10 @@ with_cause (Some cause) names = cause ∷ names
 abbrev pub named_by : Event → List At
 named_by (Fetch command opened cdb row bytes) = opened ∷ []
 named_by (Put command opened cdb row bytes names) = opened ∷ names
-named_by (Diff command opened cdb row bytes sent dropped) = opened ∷ []
+named_by (Diff command opened cdb row bytes sent dropped back) = opened ∷ []
 named_by (Take command opened cdb row bytes) = opened ∷ []
 named_by (Fold command opened cdb row bytes names) = opened ∷ names
-named_by (Hold command opened cdb row bytes kept names) = opened ∷ names
+named_by (Hold command opened cdb row bytes kept names back) = opened ∷ names
 named_by (Shut command opened acted lost) = opened ∷ []
 named_by (Gone life call commands) = []
 named_by (Wiped what call commands) = []

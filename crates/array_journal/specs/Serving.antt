@@ -44,7 +44,7 @@ read_entries s past task cdb = close_read_entry past task ∷ fetch_entry s past
 -- an update writes its blocks over the old ones, and their exclusive-or is held
 abbrev pub diff_entry : List Entry → Task → Cdb → Entry
 diff_entry past task cdb =
-    next_entry past 2 (task.target + 1) (Diff (open_count past) (opened_name past) cdb task.row task.bytes false false)
+    next_entry past 2 (task.target + 1) (Diff (open_count past) (opened_name past) cdb task.row task.bytes false false false)
 
 -- the delta of an update, over the journal before it
 abbrev pub update_delta : Setting → List Entry → Task → List ℕ

@@ -56,7 +56,7 @@ abbrev pub written : Cdb → Cdb → Cdb → List Entry
 written diff take fold =
     entry 4 3 (Fold 0 (at 1 0) fold 0 block (at 3 1 ∷ []))
     ∷ entry 3 1 (Take 0 (at 1 0) take 0 block)
-    ∷ entry 2 1 (Diff 0 (at 1 0) diff 0 block false false)
+    ∷ entry 2 1 (Diff 0 (at 1 0) diff 0 block false false false)
     ∷ entry 1 0 (Open 0 write_task) ∷ []
 
 abbrev pub write_and_read : Cdb → Cdb → Cdb → Cdb → List Entry
@@ -105,7 +105,7 @@ abbrev pub UnfoldedStaysOpen : Type 0
 UnfoldedStaysOpen =
     (diff take : Cdb) (stamp : ℕ) (names : List At) (cause : Option At) (bytes : List ℕ)
     → May small
-    (entry 3 1 (Take 0 (at 1 0) take 0 block) ∷ entry 2 1 (Diff 0 (at 1 0) diff 0 block false false) ∷ entry 1 0 (Open 0 write_task) ∷ [])
+    (entry 3 1 (Take 0 (at 1 0) take 0 block) ∷ entry 2 1 (Diff 0 (at 1 0) diff 0 block false false false) ∷ entry 1 0 (Open 0 write_task) ∷ [])
     (entry stamp 0 (Close 0 true names cause bytes))
     → ⊥
 
@@ -114,7 +114,7 @@ abbrev pub beside_update : Cdb → List Entry
 beside_update diff =
     entry 4 0 (Note 1 (at 3 2))
     ∷ entry 3 2 (Gone 0 2 [])
-    ∷ entry 2 1 (Diff 0 (at 1 0) diff 0 block false false)
+    ∷ entry 2 1 (Diff 0 (at 1 0) diff 0 block false false false)
     ∷ entry 1 0 (Open 0 write_task) ∷ []
 
 abbrev pub BesideUpdateRuns : Type 0
@@ -159,7 +159,7 @@ parity_replaced diff take =
     ∷ entry 6 0 (Close 0 true (at 3 1 ∷ at 4 1 ∷ []) (Some (at 1 3)) [])
     ∷ entry 5 0 (Note 2 (at 1 3))
     ∷ entry 4 1 (Take 0 (at 2 0) take 0 (1 ∷ []))
-    ∷ entry 3 1 (Diff 0 (at 2 0) diff 0 (1 ∷ []) false false)
+    ∷ entry 3 1 (Diff 0 (at 2 0) diff 0 (1 ∷ []) false false false)
     ∷ entry 2 0 (Open 0 old_task)
     ∷ entry 1 3 (Gone 0 2 []) ∷ []
 
@@ -180,7 +180,7 @@ spoilt diff =
     ∷ entry 5 0 (Spoil 0 (at 2 1) (at 3 1) (at 4 3))
     ∷ entry 4 3 (Shut 0 (at 1 0) false None)
     ∷ entry 3 1 (Gone 0 2 (0 ∷ []))
-    ∷ entry 2 1 (Diff 0 (at 1 0) diff 0 (1 ∷ []) false false)
+    ∷ entry 2 1 (Diff 0 (at 1 0) diff 0 (1 ∷ []) false false false)
     ∷ entry 1 0 (Open 0 old_task) ∷ []
 
 abbrev pub SpoiltRuns : Type 0

@@ -16,7 +16,7 @@ use Rattle.array_journal.specs.Tried.{small, tiny, at, entry, task_on, block, bl
 
 -- an update up to its diff, and up to its take
 abbrev pub differed : Cdb → List Entry
-differed diff = entry 2 1 (Diff 0 (at 1 0) diff 0 block false false) ∷ entry 1 0 (Open 0 write_task) ∷ []
+differed diff = entry 2 1 (Diff 0 (at 1 0) diff 0 block false false false) ∷ entry 1 0 (Open 0 write_task) ∷ []
 
 abbrev pub taken_out : Cdb → Cdb → List Entry
 taken_out diff take = entry 3 1 (Take 0 (at 1 0) take 0 block) ∷ differed diff
@@ -31,7 +31,7 @@ FoldsTheTaken =
 abbrev pub OneDiff : Type 0
 OneDiff =
     (diff again : Cdb) (stamp row : ℕ) (bytes : List ℕ)
-    → May small (differed diff) (entry stamp 1 (Diff 0 (at 1 0) again row bytes false false)) → ⊥
+    → May small (differed diff) (entry stamp 1 (Diff 0 (at 1 0) again row bytes false false false)) → ⊥
 
 -- An update of a row that an open update writes isn't opened.
 abbrev pub UpdatesApart : Type 0
@@ -54,7 +54,7 @@ FetchesWhatStands =
 -- the same block is written once more, up to the diff and up to the take
 abbrev pub rewritten : Cdb → Cdb → Cdb → Cdb → List Entry
 rewritten diff take fold again =
-    entry 7 1 (Diff 1 (at 6 0) again 0 block false false)
+    entry 7 1 (Diff 1 (at 6 0) again 0 block false false false)
     ∷ entry 6 0 (Open 1 (task_on 2 Update 0 block))
     ∷ entry 5 0 (Close 0 true (at 2 1 ∷ at 3 1 ∷ at 4 3 ∷ []) None [])
     ∷ written diff take fold

@@ -61,7 +61,8 @@ pub enum Event {
         bytes: Bytes,
         names: Names,
     },
-    /// New blocks of a host were written; the delta is held here, or sent to the parity target.
+    /// New blocks of a host were written; the delta is held here, or sent to the parity target, or
+    /// handed back to the controller.
     Diff {
         command: u32,
         opened: At,
@@ -70,6 +71,7 @@ pub enum Event {
         bytes: Bytes,
         sent: bool,
         dropped: bool,
+        back: bool,
     },
     /// Held blocks were handed out and released.
     Take {
@@ -79,7 +81,8 @@ pub enum Event {
         row: u32,
         bytes: Bytes,
     },
-    /// A delta was folded into parity: that of the take or of the sent diff that is named.
+    /// A delta was folded into parity: that of the take, or of the sent or handed back diff, that is
+    /// named.
     Fold {
         command: u32,
         opened: At,
@@ -88,7 +91,8 @@ pub enum Event {
         bytes: Bytes,
         names: Names,
     },
-    /// The exclusive-or of the medium's rows with the fetches that are named was held, or sent.
+    /// The exclusive-or of the medium's rows with the fetches that are named was held, or sent, or
+    /// handed back.
     Hold {
         command: u32,
         opened: At,
@@ -97,6 +101,7 @@ pub enum Event {
         bytes: Bytes,
         kept: bool,
         names: Names,
+        back: bool,
     },
     /// The target takes no more acts of the command. `acted` says that a put, diff or fold of it
     /// stands here, `gone` names the newest loss where the target is gone.
@@ -203,6 +208,7 @@ impl Event {
                 bytes,
                 sent,
                 dropped,
+                back,
             } => Event::Diff {
                 command: *command,
                 opened: *opened,
@@ -211,6 +217,7 @@ impl Event {
                 bytes: bytes.copy(alloc)?,
                 sent: *sent,
                 dropped: *dropped,
+                back: *back,
             },
             Event::Take {
                 command,
@@ -248,6 +255,7 @@ impl Event {
                 bytes,
                 kept,
                 names,
+                back,
             } => Event::Hold {
                 command: *command,
                 opened: *opened,
@@ -256,6 +264,7 @@ impl Event {
                 bytes: bytes.copy(alloc)?,
                 kept: *kept,
                 names: names.copy(alloc)?,
+                back: *back,
             },
             Event::Shut {
                 command,

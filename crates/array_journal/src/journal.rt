@@ -1,6 +1,6 @@
 ghost use Rattle.std.specs.Prelude.{◌≡◌, [], ◌∷◌, ◌++◌, length, OnOk, OnErr, IfOk, slice_get};
 ghost use Rattle.std.specs.List.Sorted.{IsPermutation};
-ghost use Rattle.array_journal.specs.Merge.{joined, Rises, HaveOwnNames, AreOfLocks};
+ghost use Rattle.array_journal.specs.Merge.{joined, Rises, HaveOwnNames, AreOfLocks, NeverFalls};
 ghost use Rattle.std.specs.Option.{option_copied};
 
 use crate::entry::Entry;
@@ -115,9 +115,11 @@ impl Entries {
 }
 
 /// The journal of some lists, as those of the array's locks: each entry of each list once, in the
-/// order of stamps, and of locks where stamps are equal. The entries are moved, in n log n steps.
+/// order of stamps, and of locks where stamps are equal, whatever the lists are; entries of one name in
+/// any order among themselves. The entries are moved, in n log n steps.
 pub fn merge(alloc: Global, lists: Vec<Entries>) -> Result<Journal, Memory>
     ensures same { IfOk result (λ journal. IsPermutation (joined lists.items) journal) }
+    ensures ordered { IfOk result (λ journal. NeverFalls journal) }
     ensures in_order { IfOk result (λ journal. HaveOwnNames (joined lists.items) → Rises journal) }
     ensures of_locks { IfOk result (λ journal. AreOfLocks 0 lists.items → Rises journal) }
 {

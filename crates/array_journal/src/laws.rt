@@ -1,6 +1,12 @@
 //! Laws of every run of the array, in every setting: of losses, resets, dropped requests, replacements
 //! and rebuilds in any order. Each is the contract of a function that does nothing.
 
+ghost use Rattle.array_journal.specs.Joined.{JoinedPartsLaw, NumbersPartViews};
+ghost use Rattle.array_journal.specs.Waiting.{SlotsWaitLaw};
+ghost use Rattle.array_journal.specs.Known.{WindowReadsLaw, UpdatesOweLaw};
+ghost use Rattle.array_journal.specs.Served.{NoOtherAnswerLaw, DeltaFoundLaw, GatheredFoundLaw};
+ghost use Rattle.array_journal.specs.Guarded.{GuardedLaw};
+ghost use Rattle.array_journal.specs.HeldExactly.{DeltaHeldExactlyLaw, GatheredHeldExactlyLaw};
 ghost use Rattle.array_journal.specs.Laws.{LivesLaw, FreshLaw, MendedLaw, UnfittedLaw, AloneLaw, UndisturbedLaw, NoActAfterEndLaw, OneEndLaw, AbsentLaw, PresentLaw, OwnersLaw, HeldApartLaw, DeltaHeldLaw, BeginningsLaw, ByNamesLaw, TargetLaneLaw, BookLaneLaw, NamedLaneLaw, ConservedLaw, LegalLaw};
 
 /// The disks of a slot come one after the other: a loss is noted, the slot is swapped, a fresh disk
@@ -67,4 +73,55 @@ pub fn nothing_is_lost()
 /// What hosts read is what one plain list of sectors says of the writes that they were told before.
 pub fn reads_are_right()
     ensures legal { LegalLaw }
+{}
+
+/// Two runs of one setting that are parts of a journal, each with a beginning of each lock's entries and
+/// one of them with all, make the journal a run. No condition on an entry looks at the number of all
+/// entries: one that did would let it follow a part and not the whole.
+pub fn joined_parts_are_a_run()
+    ensures joined { JoinedPartsLaw }
+    ensures numbered { NumbersPartViews }
+{}
+
+/// While a command is open none of its slots gets a new disk: one that is known to be without a disk
+/// stays so, and is swapped no further time.
+pub fn slots_wait_for_commands()
+    ensures waits { SlotsWaitLaw }
+{}
+
+/// What a target holds of a command is, to the byte and from its row on, the delta that its diff made or
+/// what its gathering came to, until it is released.
+pub fn held_blocks_are_as_made()
+    ensures delta { DeltaHeldExactlyLaw }
+    ensures gathered { GatheredHeldExactlyLaw }
+{}
+
+/// What a command that runs alone has fetched is what its stripe held when it was opened: plain sectors, or
+/// the parity that these give.
+pub fn windows_read_what_stood()
+    ensures reads { WindowReadsLaw }
+{}
+
+/// Only updates owe parity a delta.
+pub fn only_updates_owe()
+    ensures owes { UpdatesOweLaw }
+{}
+
+/// A take finds what was held for it, unless that was released: the delta of its command's diff, or what
+/// was gathered.
+pub fn takes_find_what_is_held()
+    ensures delta { DeltaFoundLaw }
+    ensures gathered { GatheredFoundLaw }
+{}
+
+/// An act that is due at a target that isn't gone and hasn't shut its command is never refused: its rows
+/// are in range, no other command holds one of them, the buffer has room, and no disk came meanwhile.
+pub fn due_acts_are_served()
+    ensures served { NoOtherAnswerLaw }
+{}
+
+/// Each entry of a run leaves exclusive commands undisturbed, follows the end of no command of its own, and
+/// is no act on an absent unit; and a unit is absent exactly where it is missing or its target is gone.
+pub fn each_entry_is_guarded()
+    ensures guarded { GuardedLaw }
 {}

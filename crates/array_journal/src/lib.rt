@@ -11,8 +11,6 @@ mod names;
 pub mod parts;
 mod setting;
 mod task;
-#[cfg(test)]
-mod tests;
 pub mod tried;
 
 pub use at::At;

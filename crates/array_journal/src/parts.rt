@@ -2,6 +2,7 @@
 //! and the stamp; and what is asked of a command's own entries can be asked of these alone.
 ghost use Rattle.array_journal.specs.Parts.{MayHasParts, PartsGiveMay};
 ghost use Rattle.array_journal.specs.OwnEntries.{OthersLeaveMine, OwnEntriesStand, OwnTestsAgree, CommandsSeenInOwn};
+ghost use Rattle.array_journal.specs.Calls.{NewToBoth, NewCallsHaveNothing};
 
 /// An entry that may follow a journal is asked for, found so by its lock, and later.
 pub fn may_has_parts()
@@ -31,4 +32,11 @@ pub fn own_tests_agree()
 /// A command's own entries tell its task, and whether it is open.
 pub fn commands_seen_in_own()
     ensures { CommandsSeenInOwn }
+{}
+
+/// A call that is new to some entries, losses and wipes and the calls of their commands counted, stays new
+/// where entries of other calls come; and it has no entries and no commands there.
+pub fn new_calls()
+    ensures both { NewToBoth }
+    ensures nothing { NewCallsHaveNothing }
 {}

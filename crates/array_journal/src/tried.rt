@@ -3,6 +3,7 @@
 ghost use Rattle.array_journal.specs.Tried.{WriteAndReadRuns, LossMeetsAReadRuns, UnfoldedStaysOpen, UpdateBarsDegradedRead, BesideUpdateRuns, UnputStaysOpen, RebuildingRuns, OldCommandsBarred, ParityReplacedRuns, ListedUnitsUnread, SpoiltRuns, TwoLostUnread, TwoLostRuns};
 ghost use Rattle.array_journal.specs.Wrong.{FoldsTheTaken, OneDiff, UpdatesApart, FetchesWhatStands, RewriteOwesZeros, UpdatesPutNothing, DataAloneWantsParityLost, ShutBarsTheFold};
 ghost use Rattle.array_journal.specs.Examples.{PutAloneRuns, DeltaWipedRuns, RebuiltRuns, GatheredRuns, RefusedRuns};
+ghost use Rattle.array_journal.specs.Readback.{HandedBackRuns, HandedBackIsNotHeld, HandsBackByMode, FoldsTheHandedBack, FoldsNothingElse, TakesNothing};
 
 /// A block written by an update and read back is a run.
 pub fn write_and_read()
@@ -93,4 +94,15 @@ pub fn two_puts_for_a_write_barred()
 /// An update that was given up doesn't fold into parity where it was shut.
 pub fn fold_after_a_shut_barred()
     ensures { ShutBarsTheFold }
+{}
+
+/// In readback mode a delta survives a reset, since no target holds it; it is folded as it was handed back;
+/// and no diff keeps its delta, no fold rests on one that did, and nothing is taken.
+pub fn handed_back_deltas()
+    ensures run { HandedBackRuns }
+    ensures held { HandedBackIsNotHeld }
+    ensures diff { HandsBackByMode }
+    ensures fold { FoldsTheHandedBack }
+    ensures source { FoldsNothingElse }
+    ensures take { TakesNothing }
 {}

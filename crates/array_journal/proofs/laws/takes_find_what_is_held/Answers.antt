@@ -1,0 +1,8 @@
+use Rattle.array_journal.proofs.FoundRows.{delta-found, gathered-found}
+use Rattle.array_journal.proofs.laws.takes_find_what_is_held.Goals as goal
+
+pub returns-clause-delta : goal.returns-clause-delta
+returns-clause-delta c = delta-found
+
+pub returns-clause-gathered : goal.returns-clause-gathered
+returns-clause-gathered c = gathered-found
