@@ -47,7 +47,7 @@ deeds-more lock c stamp l (Put command opened cdb row bytes names) past = by (l 
     by true true d = refl
     by true false d = refl
     by false b d = refl
-deeds-more lock c stamp l (Diff command opened cdb row bytes sent dropped) past = by (l == lock) (command == c) (deeds_of lock c past)
+deeds-more lock c stamp l (Diff command opened cdb row bytes sent dropped back) past = by (l == lock) (command == c) (deeds_of lock c past)
   where
     by : (a b : Bool) (d : Deeds) →
         seven ((a && false) || d.fetched) ((a && false) || d.put) ((a && b) || d.diffed) ((a && false) || d.taken) ((a && false) || d.folded) ((a && false) || d.held) ((a && false) || d.shut)
@@ -71,7 +71,7 @@ deeds-more lock c stamp l (Fold command opened cdb row bytes names) past = by (l
     by true true d = refl
     by true false d = refl
     by false b d = refl
-deeds-more lock c stamp l (Hold command opened cdb row bytes kept names) past = by (l == lock) (command == c) (deeds_of lock c past)
+deeds-more lock c stamp l (Hold command opened cdb row bytes kept names back) past = by (l == lock) (command == c) (deeds_of lock c past)
   where
     by : (a b : Bool) (d : Deeds) →
         seven ((a && false) || d.fetched) ((a && false) || d.put) ((a && false) || d.diffed) ((a && false) || d.taken) ((a && false) || d.folded) ((a && b) || d.held) ((a && false) || d.shut)

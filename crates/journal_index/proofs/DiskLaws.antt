@@ -112,8 +112,8 @@ life-le lock (e ∷ past) = life_small (e.lock == lock) (name_of e) e.event (dis
 
 drops_more : (event : Event) (n m : ℕ) → n ≤ m → drops_after event n ≤ suc m
 drops_more (Wiped Request call commands) n m h = omega (arith, h)
-drops_more (Diff command opened cdb row bytes true dropped) n m h = omega (arith, h)
-drops_more (Hold command opened cdb row bytes false names) n m h = omega (arith, h)
+drops_more (Diff command opened cdb row bytes true dropped back) n m h = omega (arith, h)
+drops_more (Hold command opened cdb row bytes false names false) n m h = omega (arith, h)
 drops_more _ n m h = omega (arith, h)
 
 drops_small : (b : Bool) (at : At) (event : Event) (disk : Disk) (m : ℕ) → disk.drops ≤ m →

@@ -17,10 +17,10 @@ none_done = record { fetched = false; put = false; diffed = false; taken = false
 abbrev pub actor : Event → Option ℕ
 actor (Fetch command opened cdb row bytes) = Some command
 actor (Put command opened cdb row bytes names) = Some command
-actor (Diff command opened cdb row bytes sent dropped) = Some command
+actor (Diff command opened cdb row bytes sent dropped back) = Some command
 actor (Take command opened cdb row bytes) = Some command
 actor (Fold command opened cdb row bytes names) = Some command
-actor (Hold command opened cdb row bytes kept names) = Some command
+actor (Hold command opened cdb row bytes kept names back) = Some command
 actor (Shut command opened acted lost) = Some command
 actor _ = None
 
@@ -28,10 +28,10 @@ actor _ = None
 abbrev pub with_deed : Event → Deeds → Deeds
 with_deed (Fetch command opened cdb row bytes) d = record d { fetched = true }
 with_deed (Put command opened cdb row bytes names) d = record d { put = true }
-with_deed (Diff command opened cdb row bytes sent dropped) d = record d { diffed = true }
+with_deed (Diff command opened cdb row bytes sent dropped back) d = record d { diffed = true }
 with_deed (Take command opened cdb row bytes) d = record d { taken = true }
 with_deed (Fold command opened cdb row bytes names) d = record d { folded = true }
-with_deed (Hold command opened cdb row bytes kept names) d = record d { held = true }
+with_deed (Hold command opened cdb row bytes kept names back) d = record d { held = true }
 with_deed (Shut command opened acted lost) d = record d { shut = true }
 with_deed _ d = d
 

@@ -69,7 +69,12 @@ fn drops_after(event: &Event, count: usize) -> usize
             what: What::Request,
             ..
         } => count.saturating_add(1),
-        Event::Diff { sent: true, .. } | Event::Hold { kept: false, .. } => count.saturating_sub(1),
+        Event::Diff { sent: true, .. }
+        | Event::Hold {
+            kept: false,
+            back: false,
+            ..
+        } => count.saturating_sub(1),
         _ => count,
     }
 }
