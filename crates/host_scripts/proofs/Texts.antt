@@ -1,16 +1,16 @@
 -- The rules of the header's lines.
-use Rattle.std.proofs.Common.{◌≡◌, ℕ, ◌+◌, ◌-◌, ◌<◌, ◌≤◌, ◌&&◌, ◌==◌, nat_lt, nat_le, Bool, true, false, List, [], ◌∷◌, ◌++◌, length, map, get_or, min, Option, Some, None, refl, sym, ap, ◌∙◌, arith}
-use Rattle.std.specs.Prelude.{codes}
-use Rattle.std.specs.List.{list_all, AllByRecursion}
+use Rattle.std.proofs.Common.{◌≡◌, ℕ, ◌+◌, ◌-◌, ◌<◌, ◌≤◌, ◌&&◌, ◌==◌, nat_lt, nat_le, Bool, true, false, List, [], ◌∷◌, ◌++◌, length, map, get_or, min, Some, refl, sym, ap, ◌∙◌, arith}
+use Rattle.std.specs.Prelude.{codes, if◌then◌else◌}
+use Rattle.std.specs.List.{find, list_all, AllByRecursion}
 use Rattle.std.specs.Str.{bytes_eq}
 use Rattle.std.proofs.lemmas.Bool.Decides.{nat_tests}
 use Rattle.std.proofs.lemmas.Option.{cond_some, same_Some}
 use Rattle.std.proofs.lemmas.Slice.Eq.{bytes_eq-Decides}
 use Rattle.stripe_layout.specs.declared.mode.Mode.{Mode}
-use Rattle.stripe_layout.specs.declared.mode.Mode.TheVariants.{Supervised, ThirdParty}
+use Rattle.stripe_layout.specs.declared.mode.Mode.TheVariants.{Supervised, ThirdParty, Readback}
 use Rattle.host_scripts.specs.Scripts.{numeral, letter, maxima_text, mode_text}
 use Rattle.host_scripts.specs.Words.{◌>>=◌, cut_at, stripped, numeral_of}
-use Rattle.host_scripts.specs.Loose.{exact_of, number_of, three_of, maxima_of, else_of, mode_of, is_letter, are_letters, letters_of, order_of}
+use Rattle.host_scripts.specs.Loose.{exact_of, number_of, three_of, maxima_of, modes, mode_of, is_letter, are_letters, letters_of, order_of}
 use Rattle.host_scripts.proofs.NumeralLaws.{numeral-takes, numeral-again}
 use Rattle.host_scripts.proofs.Parts.{bind-some, lacks, lacks-append, numeral-lacks, cut-takes, cut-again, stripped-takes, stripped-again}
 use Rattle.host_scripts.proofs.Rules.{Says, IsRule}
@@ -117,23 +117,25 @@ maxima_rule = record {
 
 -- ---- the mode
 
+-- the text is the line of the first of these that it was found to be
+found-is : (text : List ℕ) (all : List Mode) (v : Mode) → find (λ mode. bytes_eq text (mode_text mode)) all ≡ Some v → text ≡ mode_text v
+found-is text [] v e = absurd cc
+found-is text (m ∷ all) v e = by-this (bytes_eq text (mode_text m)) refl (found-is text all v) e
+  where
+    by-this : (b : Bool) → bytes_eq text (mode_text m) ≡ b → (find (λ mode. bytes_eq text (mode_text mode)) all ≡ Some v → text ≡ mode_text v)
+        → (if b then Some m else find (λ mode. bytes_eq text (mode_text mode)) all) ≡ Some v → text ≡ mode_text v
+    by-this true same later e = (bytes_eq-Decides text (mode_text m)).0 same ∙ ap mode_text (same_Some m v e)
+    by-this false other later e = later e
+
 mode-takes : (text : List ℕ) (v : Mode) → mode_of text ≡ Some v → Says mode_text (λ m. m) (λ m. Unit {0}) text v
 unfolding mode_of
-mode-takes text v e = by-first (exact_of (codes "mode supervised") Supervised text) (exact_of (codes "mode thirdparty") ThirdParty text) (λ m h. exact-takes (codes "mode supervised") Supervised text m h) (λ m h. exact-takes (codes "mode thirdparty") ThirdParty text m h) e
-  where
-    by-first : (o p : Option Mode) → ((m : Mode) → o ≡ Some m → (text ≡ codes "mode supervised") × (Supervised ≡ m)) → ((m : Mode) → p ≡ Some m → (text ≡ codes "mode thirdparty") × (ThirdParty ≡ m))
-        → else_of (λ m. Some m) o p ≡ Some v → Says mode_text (λ m. m) (λ m. Unit {0}) text v
-    by-first (Some m) p h k e = let g = h m refl in record { word = Supervised; spelt = g.0; formed = tt; value = sym (g.1 ∙ same_Some m v e) }
-    by-first None p h k e = let g = k v e in record { word = ThirdParty; spelt = g.0; formed = tt; value = sym g.1 }
-
-not-supervised : exact_of (codes "mode supervised") Supervised (codes "mode thirdparty") ≡ None
-unfolding exact_of
-not-supervised = refl
+mode-takes text v e = record { word = v; spelt = found-is text modes v e; formed = tt; value = refl }
 
 mode-again : (m : Mode) → mode_of (mode_text m) ≡ Some m
 unfolding mode_of
-mode-again Supervised = rw (exact-again (codes "mode supervised") Supervised) refl
-mode-again ThirdParty = rw (not-supervised, exact-again (codes "mode thirdparty") ThirdParty) refl
+mode-again Supervised = refl
+mode-again ThirdParty = refl
+mode-again Readback = refl
 
 pub mode_rule : IsRule mode_of mode_text (λ m. m) (λ m. Unit {0})
 mode_rule = record {
@@ -145,6 +147,7 @@ mode_rule = record {
     mode-clean : (m : Mode) → lacks 10 (mode_text m) ≡ true
     mode-clean Supervised = refl
     mode-clean ThirdParty = refl
+    mode-clean Readback = refl
 
 -- ---- the first turns
 

@@ -8,7 +8,7 @@ use Rattle.cdb_fields.proofs.Cells.{cells, cells_from, number_4_fits, number_2_f
 use Rattle.sbc_cdbs.specs.Cdbs.{spelling, Fits, Spells}
 use Rattle.sbc_cdbs.specs.Faults.{IsFault}
 use Rattle.sbc_cdbs.specs.declared.commands.Command.{Command}
-use Rattle.sbc_cdbs.specs.declared.commands.Command.TheVariants.{Read, Write, XdWrite, XpWrite, XdRead, ModeSelect, ModeSense, XdWriteExtended, Rebuild, Regenerate}
+use Rattle.sbc_cdbs.specs.declared.commands.Command.TheVariants.{Read, Write, XdWrite, XpWrite, XdRead, XdWriteRead, ModeSelect, ModeSense, XdWriteExtended, Rebuild, Regenerate}
 use Rattle.sbc_cdbs.specs.declared.decoding.CdbFault.{CdbFault}
 use Rattle.sbc_cdbs.proofs.Again.{again}
 use Rattle.sbc_cdbs.proofs.Answers.{faultless}
@@ -46,6 +46,7 @@ of-command (Write dpo fua lba count) h = of-write dpo fua lba count h
 of-command (XdWrite dpo fua disable lba count) h = refl
 of-command (XpWrite dpo fua lba count) h = refl
 of-command (XdRead lba count) h = refl
+of-command (XdWriteRead dpo fua disable lba count) h = refl
 of-command (ModeSelect pf sp list) h = refl
 of-command (ModeSense dbd pc page allocation) h = refl
 of-command (XdWriteExtended dpo fua disable lba second count address) h = refl

@@ -33,6 +33,7 @@ transferred_by (commands.Write dpo fua lba count) = count
 transferred_by (commands.XdWrite dpo fua disable lba count) = 0
 transferred_by (commands.XpWrite dpo fua lba count) = 0
 transferred_by (commands.XdRead lba count) = 0
+transferred_by (commands.XdWriteRead dpo fua disable lba count) = 0
 transferred_by (commands.ModeSelect pf sp list) = 0
 transferred_by (commands.ModeSense dbd pc page allocation) = 0
 transferred_by (commands.XdWriteExtended dpo fua disable lba second count address) = 0

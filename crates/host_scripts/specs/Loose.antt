@@ -1,14 +1,15 @@
 -- What the text of a line says in the form of a rule, before its ranges are tested.
 use Rattle.std.specs.Prelude.{ℕ, ◌-◌, ◌==◌, ◌&&◌, nat_lt, nat_le, Bool, if◌then◌else◌, List, [], ◌∷◌, length, map, codes, Option, Some, None}
-use Rattle.std.specs.List.{list_all}
+use Rattle.std.specs.List.{find, list_all}
 use Rattle.std.specs.Str.{bytes_eq}
 use Rattle.stripe_layout.specs.declared.mode.Mode.{Mode}
-use Rattle.stripe_layout.specs.declared.mode.Mode.TheVariants.{Supervised, ThirdParty}
+use Rattle.stripe_layout.specs.declared.mode.Mode.TheVariants.{Supervised, ThirdParty, Readback}
 use Rattle.host_scripts.specs.declared.script.Call.{Call}
 use Rattle.host_scripts.specs.declared.script.Action.{Action}
 use Rattle.host_scripts.specs.declared.script.Action.TheVariants.{Read, Write, Fill, Raw, Lose, Reset, DropNext, Replace, Rebuild, Resync}
 use Rattle.host_scripts.specs.declared.actions.Operation.{Operation}
 use Rattle.host_scripts.specs.declared.actions.Operation.TheVariants.{Losing, Resetting, Dropping, Replacing, Rebuilding}
+use Rattle.host_scripts.specs.Scripts.{mode_text}
 use Rattle.host_scripts.specs.Words.{◌>>=◌, cut_at, stripped, numeral_of, filled_of, data_of, one_byte_of}
 
 -- this text and no other
@@ -40,9 +41,13 @@ abbrev pub else_of : {A B : Type 0} → (A → Option B) → Option A → Option
 else_of f (Some x) other = f x
 else_of f None other = other
 
--- who moves deltas
+-- all modes
+abbrev pub modes : List Mode
+modes = Supervised ∷ ThirdParty ∷ Readback ∷ []
+
+-- the mode whose line this is
 unfoldable pub mode_of : List ℕ → Option Mode
-mode_of text = else_of (λ m. Some m) (exact_of (codes "mode supervised") Supervised text) (exact_of (codes "mode thirdparty") ThirdParty text)
+mode_of text = find (λ mode. bytes_eq text (mode_text mode)) modes
 
 -- an upper-case letter
 abbrev pub is_letter : ℕ → Bool

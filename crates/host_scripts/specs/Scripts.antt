@@ -6,7 +6,7 @@ use Rattle.blocks_core.specs.Blocks.{AreWhole}
 use Rattle.stripe_layout.specs.Layout.{IsArray}
 use Rattle.stripe_layout.specs.declared.geometry.Geometry.{Geometry}
 use Rattle.stripe_layout.specs.declared.mode.Mode.{Mode}
-use Rattle.stripe_layout.specs.declared.mode.Mode.TheVariants.{Supervised, ThirdParty}
+use Rattle.stripe_layout.specs.declared.mode.Mode.TheVariants.{Supervised, ThirdParty, Readback}
 use Rattle.host_scripts.specs.declared.script.Script.{Script}
 use Rattle.host_scripts.specs.declared.script.Call.{Call}
 use Rattle.host_scripts.specs.declared.script.Action.{Action}
@@ -43,6 +43,7 @@ letter host = 65 + host
 abbrev pub mode_text : Mode → List ℕ
 mode_text Supervised = codes "mode supervised"
 mode_text ThirdParty = codes "mode thirdparty"
+mode_text Readback = codes "mode readback"
 
 -- the three maxima, parted by spaces
 abbrev pub maxima_text : ℕ → ℕ → ℕ → List ℕ

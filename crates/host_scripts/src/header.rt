@@ -6,6 +6,7 @@ ghost use Rattle.host_scripts.specs.Loose.{number_of, three_of, maxima_of, mode_
 ghost use Rattle.host_scripts.specs.Reading.{Gives, judged, any, within, next_at, line_at, number_at, are_maxima, is_maximum, geometry_at, targets_at, hosts_at, head_at};
 ghost use Rattle.host_scripts.specs.Heads.{head_of};
 
+use crate::modes::mode_of;
 use crate::script::{Cause, ScriptFault, refused};
 use crate::words::{cut_bytes, is_text, number_behind, numeral, strip};
 use stripe_layout::{Geometry, Mode};
@@ -171,20 +172,6 @@ fn target_lines(unit: u32, bytes: &[u8]) -> Result<(u32, [u32; 3], &[u8]), Scrip
     Ok((buffer, maxima, rest))
 }
 
-/// The mode that a line spells.
-#[tactic(auto, unfolding(crate::specs::Loose::mode_of, crate::specs::Loose::exact_of))]
-fn mode_text(text: &[u8]) -> Option<Mode>
-    ensures { result ≡ mode_of text.now }
-{
-    if is_text(text, b"mode supervised") {
-        Some(Mode::Supervised)
-    } else if is_text(text, b"mode thirdparty") {
-        Some(Mode::ThirdParty)
-    } else {
-        None
-    }
-}
-
 /// Who moves the deltas.
 #[tactic(auto, unfolding(crate::specs::Reading::line_at))]
 fn mode_line(bytes: &[u8]) -> Result<(Mode, &[u8]), ScriptFault>
@@ -192,7 +179,7 @@ fn mode_line(bytes: &[u8]) -> Result<(Mode, &[u8]), ScriptFault>
     ensures shorter { IfOk result (λ x. length x.1.now < length bytes.now) }
 {
     let (text, rest) = next_line(bytes, 8)?;
-    match mode_text(text) {
+    match mode_of(text) {
         Some(mode) => Ok((mode, rest)),
         None => Err(refused(8, Cause::Form)),
     }

@@ -7,6 +7,7 @@ mod header;
 mod hexadecimal;
 mod limits;
 mod lines;
+mod modes;
 mod parsing;
 mod printing;
 mod script;
@@ -19,6 +20,3 @@ pub use parsing::{one_refusal, one_spelling, parse};
 pub use printing::print;
 pub use script::{Action, Call, Cause, Limit, Script, ScriptFault};
 pub use words::ranged;
-
-#[cfg(test)]
-mod tests;

@@ -5,6 +5,7 @@ ghost use Rattle.std.specs.List.{flat_map};
 ghost use Rattle.host_scripts.specs.Printed.{shape_texts, start_texts};
 ghost use Rattle.host_scripts.specs.Scripts.{line, numeral, nibble, hex, hex_or_dash, letter, maxima_text, mode_text, order_texts, action_text, call_text, spelling, IsScript, Spells};
 
+use crate::modes::mode_text;
 use crate::script::{Action, Call, Script};
 use blocks_core::{Bytes, Memory};
 use itoa::Buffer;
@@ -201,10 +202,8 @@ fn push_maxima(text: &mut Bytes, maxima: &[u32; 3]) -> Result<(), Memory>
 fn push_mode(text: &mut Bytes, mode: Mode) -> Result<(), Memory>
     ensures { OnOk result (text.new ≡ text.old ++ line (mode_text mode)) }
 {
-    match mode {
-        Mode::Supervised => text.push_slice(b"mode supervised\n"),
-        Mode::ThirdParty => text.push_slice(b"mode thirdparty\n"),
-    }
+    text.push_slice(mode_text(mode))?;
+    text.push(b'\n')
 }
 
 /// The lines of what each target starts with, and of how the hosts run.
