@@ -7,3 +7,4 @@ pub mod Summaries
 pub mod Settings
 pub mod WorkedJournals
 pub mod OnePiece
+pub mod Fronts

@@ -1,6 +1,6 @@
 -- Bytes put over a list from a place on, and behind it where they reach past its end.
 use Rattle.std.proofs.Common.{◌≡◌, ℕ, zero, suc, ◌+◌, ◌-◌, ◌<◌, ◌≤◌, List, [], ◌∷◌, ◌++◌, length, take, drop, min, refl, ap, sym, ◌∙◌, arith, append_assoc, ⊎_elim, length-drop, length-take}
-use Rattle.std.proofs.lemmas.List.{take_all, drop_all, take_min, drop_min, append-nil, drop-drop}
+use Rattle.std.proofs.lemmas.List.{take_all, drop_all, take_min, drop_min, append-nil, drop-drop, take-append-le, drop-append-le}
 use Rattle.std.proofs.lemmas.Bool.{cases_lt}
 use Rattle.std.specs.Prelude.{bit_xor}
 use Rattle.blocks_core.specs.Xor.{xor}
@@ -58,3 +58,28 @@ fold-parts old bytes at start over e f =
     rw whole (sym (drop-drop (length bytes) at old) ∙ ap (λ xs. drop (length bytes) xs) back) in
     let parts = folded_and_behind (drop start old) bytes over fits in
     rw (part_len, low_end, high_end, front, back) (simp append_assoc (ap (λ xs. take start old ++ xs) (simp append_assoc at parts)))
+
+-- ---- what stands within a list stands in a longer one
+
+slice-within : (old behind : List ℕ) (at len : ℕ) → at + len ≤ length old → slice (old ++ behind) at len ≡ slice old at len
+slice-within old behind at len fits =
+    ap (λ xs. take len xs) (drop-append-le at old behind (omega arith)) ∙ take-append-le len (drop at old) behind (omega (arith, length-drop at old))
+
+put-within : (old behind bytes : List ℕ) (at : ℕ) → at + length bytes ≤ length old → put (old ++ behind) at bytes ≡ put old at bytes ++ behind
+put-within old behind bytes at fits =
+    rw (take-append-le at old behind (omega arith), drop-append-le (at + length bytes) old behind (omega arith)) (simp append_assoc refl)
+
+-- a fold into bytes that others were put behind
+pub fold-late : (old bytes : List ℕ) (at start over : ℕ) → start ≡ min at (length old) → over ≡ min (length bytes) (length old - start) →
+    put (old ++ drop over bytes) start (xor (slice (old ++ drop over bytes) start (length (take over bytes))) (take over bytes))
+    ≡ put old at (xor (slice old at (length bytes)) bytes)
+fold-late old bytes at start over e f =
+    let part_len : length (take over bytes) ≡ over = omega (arith, length-take over bytes) in
+    let low_len : length (slice old start over) ≡ over = omega (arith, length-take over (drop start old), length-drop start old) in
+    let small : length (xor (slice old start over) (take over bytes)) ≡ over = length-xor_le (slice old start over) (take over bytes) (omega arith) ∙ part_len in
+    let read : slice (old ++ drop over bytes) start (length (take over bytes)) ≡ slice old start (length (take over bytes)) =
+    slice-within old (drop over bytes) start (length (take over bytes)) (omega arith) in
+    let within : start + length (xor (slice old start (length (take over bytes))) (take over bytes)) ≤ length old = rw part_len (omega arith) in
+    ap (λ xs. put (old ++ drop over bytes) start (xor xs (take over bytes))) read
+    ∙ put-within old (drop over bytes) (xor (slice old start (length (take over bytes))) (take over bytes)) start within
+    ∙ fold-parts old bytes at start over e f

@@ -16,7 +16,7 @@ use Rattle.stripe_check.proofs.Summaries.{sum-is}
 
 medium_after-same : (s t : Setting) (e : Event) (old : List ℕ) → s.geometry ≡ t.geometry → medium_after s e old ≡ medium_after t e old
 medium_after-same s t (Put command opened cdb row bytes names) old h = ap (λ (g : Geometry). put old (row * g.block) bytes) h
-medium_after-same s t (Diff command opened cdb row bytes sent dropped) old h = ap (λ (g : Geometry). put old (row * g.block) bytes) h
+medium_after-same s t (Diff command opened cdb row bytes sent dropped back) old h = ap (λ (g : Geometry). put old (row * g.block) bytes) h
 medium_after-same s t (Fold command opened cdb row bytes names) old h =
     ap (λ (g : Geometry). put old (row * g.block) (xor (slice old (row * g.block) (length bytes)) bytes)) h
 medium_after-same s t (Fresh call swap) old h = ap (λ (g : Geometry). zeros (rows_of g * g.block)) h

@@ -20,10 +20,10 @@ call_of_command command past = option_map (λ (task : Task). task.call) (task_of
 abbrev pub call_of : Event → List Entry → Option ℕ
 call_of (Fetch command opened cdb row bytes) past = call_of_command command past
 call_of (Put command opened cdb row bytes names) past = call_of_command command past
-call_of (Diff command opened cdb row bytes sent dropped) past = call_of_command command past
+call_of (Diff command opened cdb row bytes sent dropped back) past = call_of_command command past
 call_of (Take command opened cdb row bytes) past = call_of_command command past
 call_of (Fold command opened cdb row bytes names) past = call_of_command command past
-call_of (Hold command opened cdb row bytes kept names) past = call_of_command command past
+call_of (Hold command opened cdb row bytes kept names back) past = call_of_command command past
 call_of (Shut command opened acted lost) past = call_of_command command past
 call_of (Gone life call commands) past = Some call
 call_of (Wiped what call commands) past = Some call
@@ -59,10 +59,10 @@ pub data Step : Type 0 where
 abbrev pub step_by : Event → ℕ → At → Option Step
 step_by (Fetch command opened cdb row bytes) lock name = None
 step_by (Put command opened cdb row bytes names) lock name = None
-step_by (Diff command opened cdb row bytes sent dropped) lock name = None
+step_by (Diff command opened cdb row bytes sent dropped back) lock name = None
 step_by (Take command opened cdb row bytes) lock name = None
 step_by (Fold command opened cdb row bytes names) lock name = None
-step_by (Hold command opened cdb row bytes kept names) lock name = None
+step_by (Hold command opened cdb row bytes kept names back) lock name = None
 step_by (Shut command opened acted lost) lock name = None
 step_by (Gone life call commands) lock name = Some (Lost lock life)
 step_by (Wiped what call commands) lock name = Some (WipedAt lock what)

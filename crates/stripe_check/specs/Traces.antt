@@ -101,12 +101,12 @@ act_text command opened cdb row bytes =
 abbrev pub event_text : Event → List ℕ
 event_text (Fetch command opened cdb row bytes) = codes "fetch" ++ act_text command opened cdb row bytes
 event_text (Put command opened cdb row bytes names) = codes "put" ++ (act_text command opened cdb row bytes ++ field (names_text names))
-event_text (Diff command opened cdb row bytes sent dropped) =
-    codes "diff" ++ (act_text command opened cdb row bytes ++ (field (flag_text sent) ++ field (flag_text dropped)))
+event_text (Diff command opened cdb row bytes sent dropped back) =
+    codes "diff" ++ (act_text command opened cdb row bytes ++ (field (flag_text sent) ++ (field (flag_text dropped) ++ field (flag_text back))))
 event_text (Take command opened cdb row bytes) = codes "take" ++ act_text command opened cdb row bytes
 event_text (Fold command opened cdb row bytes names) = codes "fold" ++ (act_text command opened cdb row bytes ++ field (names_text names))
-event_text (Hold command opened cdb row bytes kept names) =
-    codes "hold" ++ (act_text command opened cdb row bytes ++ (field (flag_text kept) ++ field (names_text names)))
+event_text (Hold command opened cdb row bytes kept names back) =
+    codes "hold" ++ (act_text command opened cdb row bytes ++ (field (flag_text kept) ++ (field (names_text names) ++ field (flag_text back))))
 event_text (Shut command opened acted lost) =
     codes "shut" ++ (field (decimal command) ++ (field (at_text opened) ++ (field (flag_text acted) ++ field (cause_text lost))))
 event_text (Gone life call commands) = codes "gone" ++ (field (decimal life) ++ (field (decimal call) ++ field (owners_text commands)))

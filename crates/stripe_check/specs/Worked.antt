@@ -9,6 +9,7 @@ use Rattle.array_journal.specs.declared.event.Why.{Why}
 use Rattle.array_journal.specs.declared.event.Why.TheVariants.{Illegal, Medium, NotReady, NotLost}
 use Rattle.array_journal.specs.declared.setting.Setting.{Setting}
 use Rattle.array_journal.specs.Examples.{delta_wiped, rebuilt, gathered, tiny_third}
+use Rattle.array_journal.specs.Readback.{tiny_readback, folded_back}
 use Rattle.array_journal.specs.Tried.{small, tiny, entry, block, write_and_read, loss_meets_a_read, two_lost}
 use Rattle.host_scripts.specs.declared.script.Action.{Action}
 use Rattle.host_scripts.specs.declared.script.Action.TheVariants.{Read, Write, Raw, Lose, Reset, Replace, Rebuild}
@@ -96,6 +97,13 @@ write_and_reset = script_of tiny (first (Write 0 (1 ∷ [])) ∷ second (Reset 0
 
 abbrev pub SpoiltAsked : Type 0
 SpoiltAsked = (diff : Cdb) → IsAsked write_and_reset (reverse (delta_wiped diff))
+
+-- The same calls in readback mode: the reset finds no delta at the target, and the update is done.
+abbrev pub hand_back_and_reset : Script
+hand_back_and_reset = script_of tiny_readback (first (Write 0 (1 ∷ [])) ∷ second (Reset 0) ∷ [])
+
+abbrev pub HandedBackAsked : Type 0
+HandedBackAsked = (diff fold : Cdb) → IsAsked hand_back_and_reset (reverse (folded_back diff fold))
 
 -- a lost unit is gathered and read
 abbrev pub lose_and_read : Script

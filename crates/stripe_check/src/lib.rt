@@ -22,12 +22,8 @@ mod traces;
 pub mod worked;
 
 pub use check::{Check, Failure};
-pub use fields::{put_bytes, put_flag, put_number};
 pub use media::{first_media, write_entry, write_event};
 pub use medium::Medium;
 pub use reports::{report, sum, summary};
 pub use text::{push_counted, push_hex, push_number, push_upper_byte, upper_nibble};
 pub use traces::trace;
-
-#[cfg(test)]
-mod tests;

@@ -1,6 +1,6 @@
 //! The media of all targets, as a journal leaves them.
 
-ghost use Rattle.std.specs.Prelude.{◌≡◌, ◌+◌, ◌*◌, ◌≤◌, ◌<◌, ◌==◌, ℕ, [], ◌∷◌, List, length, get_or, OnOk, IfOk, reverse, if◌then◌else◌};
+ghost use Rattle.std.specs.Prelude.{◌≡◌, ◌+◌, ◌*◌, ◌≤◌, ◌<◌, ◌==◌, ℕ, [], ◌∷◌, List, length, get_or, OnOk, OnErr, IfOk, reverse, if◌then◌else◌};
 ghost use Rattle.blocks_core.specs.Xor.{zeros};
 ghost use Rattle.stripe_layout.specs.Layout.{IsArray, rows_of};
 ghost use Rattle.array_journal.specs.Media.{medium_after, media};
@@ -29,7 +29,8 @@ pub fn write_event(
     event: &Event,
 ) -> Result<(), Memory>
     requires { IsArray setting.now.geometry }
-    ensures { OnOk result (medium.new ≡ medium_after setting.now event.now medium.old) }
+    ensures ok { OnOk result (medium.new ≡ medium_after setting.now event.now medium.old) }
+    ensures err { OnErr result (medium.new ≡ medium.old) }
 {
     let block = setting.geometry.block as usize;
     match event {
@@ -53,7 +54,8 @@ pub fn write_entry(
     entry: &Entry,
 ) -> Result<(), Memory>
     requires { IsArray setting.now.geometry }
-    ensures { OnOk result ((past : List Entry) → AreMedia setting.now past media.old.items → AreMedia setting.now (entry.now ∷ past) media.new.items) }
+    ensures ok { OnOk result ((past : List Entry) → AreMedia setting.now past media.old.items → AreMedia setting.now (entry.now ∷ past) media.new.items) }
+    ensures err { OnErr result (media.new.items ≡ media.old.items) }
 {
     let lock = usize::from(entry.lock);
     if lock == 0 || lock > media.len() {

@@ -1,6 +1,6 @@
 //! What one target's medium holds, as far as a journal is read.
 
-ghost use Rattle.std.specs.Prelude.{◌≡◌, ◌+◌, ◌*◌, ◌≤◌, ◌<◌, ◌^◌, ◌++◌, length, OnOk, IfOk};
+ghost use Rattle.std.specs.Prelude.{◌≡◌, ◌+◌, ◌*◌, ◌≤◌, ◌<◌, ◌^◌, ◌++◌, length, OnOk, OnErr, IfOk};
 ghost use Rattle.blocks_core.specs.Xor.{xor, zeros};
 ghost use Rattle.array_journal.specs.Lists.{slice, put};
 ghost use Rattle.stripe_check.specs.Sums.{is_zero};
@@ -67,23 +67,34 @@ impl Medium {
 
     /// Puts bytes over those from a place on.
     pub fn put(&mut self, at: usize, bytes: &[u8]) -> Result<(), Memory>
-        ensures { OnOk result (self.new ≡ put self.old at bytes.now) }
+        ensures ok { OnOk result (self.new ≡ put self.old at bytes.now) }
+        ensures err { OnErr result (self.new ≡ self.old) }
     {
         let start = at.min(self.kept.len());
         let over = bytes.len().min(self.kept.len() - start);
-        self.kept[start..start + over].copy_from_slice(&bytes[..over]);
-        self.kept.extend_from_slice(&bytes[over..])?;
+        self.append(&bytes[over..])?;
+        self.put_within(start, &bytes[..over]);
         Ok(())
+    }
+
+    /// The same, where as many bytes stand there.
+    fn put_within(&mut self, at: usize, bytes: &[u8])
+        requires { at + length bytes.now ≤ length self.old }
+        ensures { self.new ≡ put self.old at bytes.now }
+    {
+        self.kept[at..at + bytes.len()].copy_from_slice(bytes);
     }
 
     /// Puts the exclusive-or of bytes and those from a place on there.
     pub fn fold(&mut self, at: usize, bytes: &[u8]) -> Result<(), Memory>
-        ensures { OnOk result (self.new ≡ put self.old at (xor (slice self.old at (length bytes.now)) bytes.now)) }
+        ensures ok { OnOk result (self.new ≡ put self.old at (xor (slice self.old at (length bytes.now)) bytes.now)) }
+        ensures err { OnErr result (self.new ≡ self.old) }
     {
         let start = at.min(self.kept.len());
         let over = bytes.len().min(self.kept.len() - start);
+        self.append(&bytes[over..])?;
         self.fold_within(start, &bytes[..over]);
-        self.append(&bytes[over..])
+        Ok(())
     }
 
     /// The same, where as many bytes stand there.
@@ -96,7 +107,8 @@ impl Medium {
 
     /// Puts bytes behind all others.
     fn append(&mut self, bytes: &[u8]) -> Result<(), Memory>
-        ensures { OnOk result (self.new ≡ self.old ++ bytes.now) }
+        ensures ok { OnOk result (self.new ≡ self.old ++ bytes.now) }
+        ensures err { OnErr result (self.new ≡ self.old) }
     {
         self.kept.extend_from_slice(bytes)?;
         Ok(())

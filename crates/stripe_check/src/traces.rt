@@ -177,10 +177,12 @@ fn push_event(text: &mut Bytes, event: &Event) -> Result<(), Memory>
             bytes,
             sent,
             dropped,
+            back,
         } => {
             push_act(text, b"diff", *command, opened, cdb, *row, bytes)?;
             put_flag(text, *sent)?;
-            put_flag(text, *dropped)
+            put_flag(text, *dropped)?;
+            put_flag(text, *back)
         }
         Event::Take {
             command,
@@ -208,10 +210,12 @@ fn push_event(text: &mut Bytes, event: &Event) -> Result<(), Memory>
             bytes,
             kept,
             names,
+            back,
         } => {
             push_act(text, b"hold", *command, opened, cdb, *row, bytes)?;
             put_flag(text, *kept)?;
-            put_names(text, names.as_slice())
+            put_names(text, names.as_slice())?;
+            put_flag(text, *back)
         }
         Event::Shut {
             command,

@@ -1,5 +1,5 @@
 //! What calls ask for, tried on journals of constants. Each is a law.
-ghost use Rattle.stripe_check.specs.Worked.{WriteAndReadAsked, UnclosedUnasked, OtherBlockUnasked, OtherOrderUnasked, UnservedUnasked, GivenUpAsked, RefusedAsked, OtherReasonUnasked, RebuiltAsked, SpoiltAsked, GatheredAsked, IllegalAsked, EitherHostFirst, OutOfTurnUnasked, UnnotedUnasked, LossAllowed, StrangerUnasked};
+ghost use Rattle.stripe_check.specs.Worked.{WriteAndReadAsked, UnclosedUnasked, OtherBlockUnasked, OtherOrderUnasked, UnservedUnasked, GivenUpAsked, RefusedAsked, OtherReasonUnasked, RebuiltAsked, SpoiltAsked, HandedBackAsked, GatheredAsked, IllegalAsked, EitherHostFirst, OutOfTurnUnasked, UnnotedUnasked, LossAllowed, StrangerUnasked};
 
 /// A block written and read back is what its two calls ask for, and not what others ask for.
 pub fn write_and_read()
@@ -16,6 +16,11 @@ pub fn lost_disks()
     ensures spoilt { SpoiltAsked }
     ensures gathered { GatheredAsked }
     ensures rebuilt { RebuiltAsked }
+{}
+
+/// A delta that was handed back isn't lost by a reset.
+pub fn handed_back_deltas()
+    ensures { HandedBackAsked }
 {}
 
 /// Refusals by the book.

@@ -5,4 +5,4 @@ use Rattle.stripe_check.proofs.media.media_of.Goals as goal
 pub loop-entry-preserved : goal.loop-entry-preserved
 loop-entry-preserved c =
     rw (read_more _ c.loop-entry.entry-index c.entry-item.result c.loop-entry-test.true (sym c.entry-item.is))
-    (c.in_ok-write_entry.ensures _ c.loop-entry.invariant)
+    (c.in_ok-write_entry.ensures.ok _ c.loop-entry.invariant)
