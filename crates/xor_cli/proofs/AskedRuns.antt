@@ -17,6 +17,7 @@ use Rattle.array_journal.specs.declared.task.Task.{Task}
 use Rattle.array_journal.specs.Commands.{open_count}
 use Rattle.array_journal.specs.Calm.{Calm, Quiet}
 use Rattle.array_journal.specs.Run.{IsSetting, NoneOpen}
+use Rattle.array_journal.proofs.GuardedRuns.{guarded_law}
 use Rattle.array_journal.proofs.KeptRuns.{conserved_law}
 use Rattle.array_journal.proofs.Opening.{read-decided, update-decided}
 use Rattle.array_journal.proofs.ReadsRight.{legal_law}
@@ -198,6 +199,7 @@ journal-of script c number can rest same all going =
       asked = asked-of script number (reverse c.journal) can all going calm.quiet.none_open;
       conserved = conserved_law (setting_of script) c.journal setting calm.grows;
       legal = legal_law (setting_of script) c.journal setting calm.grows;
+      guarded = guarded_law (setting_of script) c.journal calm.grows;
       stamped = calm.quiet.stamped;
       none_open = calm.quiet.none_open;
       none_listed = dirty-calm (setting_of script) (length (reverse c.journal)) (open_count (reverse c.journal)) (reverse c.journal) calm.quiet.entries;

@@ -19,7 +19,7 @@ chosen false x y p q = q
 
 listed_after-calm : (past : List Entry) (stripe c : ℕ) (e : Event) → IsCalmEvent c e → listed_after past stripe e None ≡ None
 listed_after-calm past stripe c (Fetch command opened cdb row bytes) p = refl
-listed_after-calm past stripe c (Diff command opened cdb row bytes sent dropped) p = refl
+listed_after-calm past stripe c (Diff command opened cdb row bytes sent dropped back) p = refl
 listed_after-calm past stripe c (Take command opened cdb row bytes) p = refl
 listed_after-calm past stripe c (Fold command opened cdb row bytes names) p = refl
 listed_after-calm past stripe c (Open command task) p = refl
@@ -46,7 +46,7 @@ dirty-calm s t c past p = none-dirty past (numbers 0 s.geometry.stripes) (λ str
 
 calm-no_loss : (c : ℕ) (e : Event) → IsCalmEvent c e → is_medium_loss e ≡ false
 calm-no_loss c (Fetch command opened cdb row bytes) p = refl
-calm-no_loss c (Diff command opened cdb row bytes sent dropped) p = refl
+calm-no_loss c (Diff command opened cdb row bytes sent dropped back) p = refl
 calm-no_loss c (Take command opened cdb row bytes) p = refl
 calm-no_loss c (Fold command opened cdb row bytes names) p = refl
 calm-no_loss c (Open command task) p = refl

@@ -4,17 +4,16 @@ use Rattle.std.specs.List.{AllByRecursion}
 use Rattle.std.proofs.lemmas.Bool.{and_parts, leb-true, eqb-true, not-false}
 use Rattle.stripe_layout.specs.Layout.{capacity_of}
 use Rattle.stripe_layout.specs.declared.mode.Mode.{Mode}
-use Rattle.stripe_layout.specs.declared.mode.Mode.TheVariants.{Supervised, ThirdParty}
+use Rattle.stripe_layout.specs.declared.mode.Mode.TheVariants.{Supervised, ThirdParty, Readback}
 use Rattle.host_scripts.specs.declared.script.Script.{Script}
 use Rattle.host_scripts.specs.declared.script.Call.{Call}
 use Rattle.host_scripts.specs.declared.script.Action.{Action}
 use Rattle.host_scripts.specs.declared.script.Action.TheVariants.{Read, Write, Fill, Raw, Lose, Reset, DropNext, Replace, Rebuild, Resync}
-use Rattle.array_journal.specs.Acts.{is_third_party}
 use Rattle.stripe_check.specs.Cuts.{most_blocks}
 use Rattle.stripe_check.specs.Reports.{setting_of}
 use Rattle.xor_cli.specs.Inputs.{IsRunnable}
 use Rattle.xor_cli.specs.Headline.{IsStart}
-use Rattle.xor_cli.specs.Later.{is_one_piece, can_do, can_call, later_call}
+use Rattle.xor_cli.specs.Later.{can_serve_in, is_one_piece, can_do, can_call, later_call}
 use Rattle.xor_cli.proofs.Today.{AreOnePiece, CanDo, CanCall, CanRun}
 
 -- nothing is left where the choice says so
@@ -61,9 +60,10 @@ calls-today s number (call ∷ calls) e =
     let first = passed (can_call s call) number (later_call s (suc number) calls) e in
     (call-today s call first.0, calls-today s (suc number) calls first.1)
 
-supervised : (mode : Mode) → is_third_party mode ≡ false → mode ≡ Supervised
+supervised : (mode : Mode) → not (can_serve_in mode) ≡ false → mode ≡ Supervised
 supervised Supervised e = refl
 supervised ThirdParty e = absurd cc
+supervised Readback e = absurd cc
 
 unordered : (order : List ℕ) → not (length order == 0) ≡ false → order ≡ []
 unordered [] e = refl
@@ -71,7 +71,7 @@ unordered (h ∷ hosts) e = let none : length (h ∷ hosts) ≡ 0 = eqb-true (le
 
 pub runs-today : (s : Script) → IsRunnable s → CanRun s
 runs-today s is =
-    let mode = left-none (is_third_party s.mode) 8 _ is.2 in
+    let mode = left-none (not (can_serve_in s.mode)) 8 _ is.2 in
     let turns = left-none (not (length s.order == 0)) 11 _ mode.1 in
     record {
       in_range = is.0;
@@ -83,5 +83,5 @@ runs-today s is =
 -- its array is one in which the controller moves the deltas
 pub starts-today : (s : Script) → IsRunnable s → IsStart (setting_of s)
 starts-today s is =
-    let mode = left-none (is_third_party s.mode) 8 _ is.2 in
-    (record { array = is.0.geometry; least_buffer = is.0.least_buffer; most_buffer = is.0.most_buffer }, mode.0)
+    let mode = left-none (not (can_serve_in s.mode)) 8 _ is.2 in
+    (record { array = is.0.geometry; least_buffer = is.0.least_buffer; most_buffer = is.0.most_buffer }, supervised s.mode mode.0)

@@ -1,8 +1,10 @@
 -- What the steps of an update come to.
 use Rattle.std.proofs.lemmas.List.{length-set}
-use Rattle.std.proofs.Common.{◌≡◌, ◌≢◌, ℕ, ◌+◌, ◌*◌, ◌<◌, Bool, true, false, List, [], ◌∷◌, length, reverse, None, refl, ap, sym, ◌∙◌, subst, arith, cond}
+use Rattle.std.proofs.Common.{◌≡◌, ◌≢◌, ℕ, ◌+◌, ◌*◌, ◌<◌, true, false, List, [], ◌∷◌, length, reverse, None, refl, ap, sym, ◌∙◌, subst, arith}
 use Rattle.blocks_core.specs.Xor.{xor}
 use Rattle.sbc_cdbs.specs.declared.descriptor.Cdb.{Cdb}
+use Rattle.stripe_layout.specs.declared.mode.Mode.{Mode}
+use Rattle.stripe_layout.specs.declared.mode.Mode.TheVariants.{Supervised}
 use Rattle.array_journal.specs.declared.at.At.{At}
 use Rattle.array_journal.specs.declared.event.Event.TheVariants.{Diff, Take, Fold, Close}
 use Rattle.array_journal.specs.declared.setting.Setting.{Setting}
@@ -12,7 +14,7 @@ use Rattle.array_journal.specs.Lists.{slice}
 use Rattle.stripe_layout.specs.Layout.{parity_of}
 use Rattle.sbc_cdbs.specs.declared.commands.Command.TheVariants as sbc
 use Rattle.sbc_cdbs.specs.Cdbs.{Spells}
-use Rattle.array_journal.specs.Acts.{task_bytes, cdb_of, Diffs, is_third_party}
+use Rattle.array_journal.specs.Acts.{task_bytes, diff_command, cdb_of, Diffs}
 use Rattle.array_journal.specs.May.{IsTask}
 use Rattle.array_journal.specs.Serving.{update_delta}
 use Rattle.array_journal.proofs.UpdateRuns.{CanUpdate, update-task, length-update_delta}
@@ -34,7 +36,7 @@ pub record IsTaken (old m1 m2 m3 : Array) (task : Task) (v : Served) (diff take 
   pub blocks : bytes ≡ task.bytes
   pub differed_at : differed ≡ next_at m1.journal (task.target + 1)
   pub diffed : m2 ≡ record m1 {
-    journal = with_next m1.journal (task.target + 1) (Diff v.command v.opened diff v.row bytes false false);
+    journal = with_next m1.journal (task.target + 1) (Diff v.command v.opened diff v.row bytes false false false);
     disks = with_diff m1.disks task.target (v.row * m1.setting.geometry.block) bytes;
   }
   pub taken_at : taken ≡ next_at m2.journal (task.target + 1)
@@ -140,7 +142,7 @@ update-made old m1 m2 m3 m4 new task v diff take fold bytes delta differed taken
     let hb : bytes ≡ task.bytes = t.blocks in
     let hd : delta ≡ (disk_of m2.disks task.target).held = t.delta_is in
     let hn : names ≡ differed ∷ taken ∷ folded ∷ [] = f.named in
-    let h2 : m2.journal ≡ with_next m1.journal (task.target + 1) (Diff v.command v.opened diff v.row bytes false false) = ap (λ (m : Array). m.journal) t.diffed in
+    let h2 : m2.journal ≡ with_next m1.journal (task.target + 1) (Diff v.command v.opened diff v.row bytes false false false) = ap (λ (m : Array). m.journal) t.diffed in
     let h3 : m3.journal ≡ with_next m2.journal (task.target + 1) (Take v.command v.opened take v.row (disk_of m2.disks task.target).held) = ap (λ (m : Array). m.journal) t.taken_out in
     let h4 : m4.journal ≡ with_next m3.journal (task.parity + 1) (Fold v.command v.opened fold v.row delta (taken ∷ [])) = ap (λ (m : Array). m.journal) f.folded_in in
     let setting : m3.setting ≡ old.setting = same_setting old m1 m2 m3 task v diff take bytes delta differed taken t in
@@ -164,8 +166,8 @@ update-made old m1 m2 m3 m4 new task v diff take fold bytes delta differed taken
     }
 
 -- in supervised mode a diff's CDB is an XDWRITE
-pub diff-spelt : (s : Setting) (task : Task) (bytes : List ℕ) → is_third_party s.mode ≡ false →
+pub diff-spelt : (s : Setting) (task : Task) (bytes : List ℕ) → s.mode ≡ Supervised →
     Spells bytes (sbc.XdWrite false false false task.row task.count) → Spells bytes (cdb_of s task 0 Diffs)
 diff-spelt s task bytes supervised spelt =
-    let P : Bool → Type 0 = λ b. Spells bytes (cond b (sbc.XdWriteExtended false false false task.row task.row task.count task.parity) (sbc.XdWrite false false false task.row task.count)) in
+    let P : Mode → Type 0 = λ mode. Spells bytes (diff_command mode task) in
     subst P (sym supervised) spelt

@@ -20,7 +20,7 @@ abbrev pub opened_journal : List Entry → ℕ → Task → List Entry
 opened_journal journal c task = with_next journal 0 (Open c task)
 
 abbrev pub diffed_journal : List Entry → ℕ → At → Task → Cdb → List Entry
-diffed_journal journal c opened task cdb = with_next journal (task.target + 1) (Diff c opened cdb task.row task.bytes false false)
+diffed_journal journal c opened task cdb = with_next journal (task.target + 1) (Diff c opened cdb task.row task.bytes false false false)
 
 abbrev pub taken_journal : List Entry → ℕ → At → Task → Cdb → List ℕ → List Entry
 taken_journal journal c opened task cdb delta = with_next journal (task.target + 1) (Take c opened cdb task.row delta)
@@ -40,7 +40,7 @@ five past task diff take fold a b d e f c opened differed taken folded delta =
     record { stamp = f; lock = 0; event = Close c true (differed ∷ taken ∷ folded ∷ []) None [] }
     ∷ record { stamp = e; lock = task.parity + 1; event = Fold c opened fold task.row delta (taken ∷ []) }
     ∷ record { stamp = d; lock = task.target + 1; event = Take c opened take task.row delta }
-    ∷ record { stamp = b; lock = task.target + 1; event = Diff c opened diff task.row task.bytes false false }
+    ∷ record { stamp = b; lock = task.target + 1; event = Diff c opened diff task.row task.bytes false false false }
     ∷ record { stamp = a; lock = 0; event = Open c task } ∷ past
 
 -- what a controller appends for an update are its entries
@@ -55,7 +55,7 @@ update-appended s j0 j1 j2 j3 j4 j5 task diff take fold c opened differed taken 
     let m : ℕ = length (reverse j0) in
     let n0 : length j0 ≡ m = sym (length-reverse j0) in
     let n1 : length j1 ≡ length j0 + 1 = ap length h1 ∙ length-with_next j0 0 (Open c task) in
-    let n2 : length j2 ≡ length j1 + 1 = ap length h2 ∙ length-with_next j1 (task.target + 1) (Diff c opened diff task.row task.bytes false false) in
+    let n2 : length j2 ≡ length j1 + 1 = ap length h2 ∙ length-with_next j1 (task.target + 1) (Diff c opened diff task.row task.bytes false false false) in
     let n3 : length j3 ≡ length j2 + 1 = ap length h3 ∙ length-with_next j2 (task.target + 1) (Take c opened take task.row delta) in
     let n4 : length j4 ≡ length j3 + 1 = ap length h4 ∙ length-with_next j3 (task.parity + 1) (Fold c opened fold task.row delta (taken ∷ [])) in
     let s1 : length j0 + 1 ≡ m + 1 = omega arith in
@@ -69,8 +69,8 @@ update-appended s j0 j1 j2 j3 j4 j5 task diff take fold c opened differed taken 
     let f : folded ≡ name_by (m + 4) (task.parity + 1) = hf ∙ ap (λ k. name_by k (task.parity + 1)) s4 in
     let r1 : reverse j1 ≡ record { stamp = length j0 + 1; lock = 0; event = Open c task } ∷ reverse j0 =
     ap reverse h1 ∙ reverse-with_next j0 0 (Open c task) in
-    let r2 : reverse j2 ≡ record { stamp = length j1 + 1; lock = task.target + 1; event = Diff c opened diff task.row task.bytes false false } ∷ reverse j1 =
-    ap reverse h2 ∙ reverse-with_next j1 (task.target + 1) (Diff c opened diff task.row task.bytes false false) in
+    let r2 : reverse j2 ≡ record { stamp = length j1 + 1; lock = task.target + 1; event = Diff c opened diff task.row task.bytes false false false } ∷ reverse j1 =
+    ap reverse h2 ∙ reverse-with_next j1 (task.target + 1) (Diff c opened diff task.row task.bytes false false false) in
     let r3 : reverse j3 ≡ record { stamp = length j2 + 1; lock = task.target + 1; event = Take c opened take task.row delta } ∷ reverse j2 =
     ap reverse h3 ∙ reverse-with_next j2 (task.target + 1) (Take c opened take task.row delta) in
     let r4 : reverse j4 ≡ record { stamp = length j3 + 1; lock = task.parity + 1; event = Fold c opened fold task.row delta (taken ∷ []) } ∷ reverse j3 =

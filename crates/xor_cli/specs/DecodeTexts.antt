@@ -5,7 +5,7 @@ use Rattle.std.specs.Fmt.{decimal}
 use Rattle.host_scripts.specs.Scripts.{line, hex}
 use Rattle.stripe_check.specs.Texts.{upper_nibble, upper_byte}
 use Rattle.sbc_cdbs.specs.declared.commands.Command.{Command}
-use Rattle.sbc_cdbs.specs.declared.commands.Command.TheVariants.{Read, Write, XdWrite, XpWrite, XdRead, ModeSelect, ModeSense, XdWriteExtended, Rebuild, Regenerate}
+use Rattle.sbc_cdbs.specs.declared.commands.Command.TheVariants.{Read, Write, XdWrite, XpWrite, XdRead, XdWriteRead, ModeSelect, ModeSense, XdWriteExtended, Rebuild, Regenerate}
 use Rattle.sense_data.specs.declared.senses.Pointer.{Pointer}
 use Rattle.sense_data.specs.declared.senses.Sense.{Sense}
 use Rattle.xor_mode_page.specs.declared.pages.XorPage.{XorPage}
@@ -73,6 +73,7 @@ cdb_text (Write dpo fua lba count) = transfer_text (codes "WRITE") dpo fua lba c
 cdb_text (XdWrite dpo fua disable lba count) = flagged (codes "XDWRITE") dpo fua (codes "disable") disable ++ extent lba count
 cdb_text (XpWrite dpo fua lba count) = transfer_text (codes "XPWRITE") dpo fua lba count
 cdb_text (XdRead lba count) = codes "XDREAD" ++ extent lba count
+cdb_text (XdWriteRead dpo fua disable lba count) = flagged (codes "XDWRITEREAD") dpo fua (codes "disable") disable ++ extent lba count
 cdb_text (ModeSelect pf sp list) = select_text pf sp list
 cdb_text (ModeSense dbd pc page allocation) = mode_sense_text dbd pc page allocation
 cdb_text (XdWriteExtended dpo fua disable lba second count address) =

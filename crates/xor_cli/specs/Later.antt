@@ -1,14 +1,21 @@
--- The first line of a script that can't be run yet, where every line is spelt: the line of the mode in which targets move
--- the deltas themselves, the line of the first turns, or the line of a call other than a read or a write of the first
--- host that is one piece within the capacity.
-use Rattle.std.specs.Prelude.{ℕ, suc, ◌+◌, ◌/◌, ◌%◌, ◌==◌, ◌&&◌, not, nat_le, Bool, false, if◌then◌else◌, List, [], ◌∷◌, length, Option, Some, None}
+-- The first line of a script that can't be run yet, where every line is spelt: the line of a mode in which the controller
+-- doesn't take the deltas from the targets that hold them, the line of the first turns, or the line of a call other than a
+-- read or a write of the first host that is one piece within the capacity.
+use Rattle.std.specs.Prelude.{ℕ, suc, ◌+◌, ◌/◌, ◌%◌, ◌==◌, ◌&&◌, not, nat_le, Bool, true, false, if◌then◌else◌, List, [], ◌∷◌, length, Option, Some, None}
 use Rattle.stripe_layout.specs.Layout.{capacity_of}
+use Rattle.stripe_layout.specs.declared.mode.Mode.{Mode}
+use Rattle.stripe_layout.specs.declared.mode.Mode.TheVariants.{Supervised, ThirdParty, Readback}
 use Rattle.host_scripts.specs.declared.script.Script.{Script}
 use Rattle.host_scripts.specs.declared.script.Call.{Call}
 use Rattle.host_scripts.specs.declared.script.Action.{Action}
 use Rattle.host_scripts.specs.declared.script.Action.TheVariants.{Read, Write, Fill, Raw, Lose, Reset, DropNext, Replace, Rebuild, Resync}
-use Rattle.array_journal.specs.Acts.{is_third_party}
 use Rattle.stripe_check.specs.Cuts.{most_blocks}
+
+-- updates of this mode can be run
+abbrev pub can_serve_in : Mode → Bool
+can_serve_in Supervised = true
+can_serve_in ThirdParty = false
+can_serve_in Readback = false
 
 -- so many blocks from this one are one piece within the capacity
 abbrev pub is_one_piece : Script → ℕ → ℕ → Bool
@@ -41,6 +48,6 @@ later_call script number (call ∷ calls) = if can_call script call then later_c
 -- the mode stands on line 8; line 11 is that of the first turns where there are any, and else that of the first call
 abbrev pub first_later : Script → Option ℕ
 first_later script =
-    if is_third_party script.mode then Some 8
+    if not (can_serve_in script.mode) then Some 8
     else if not (length script.order == 0) then Some 11
     else later_call script 11 script.calls

@@ -1,9 +1,9 @@
 -- A controller between two calls, and what serving a piece makes of it.
-use Rattle.std.specs.Prelude.{◌≡◌, ◌<◌, ◌≤◌, ◌⊎◌, ℕ, false, List, length, reverse}
+use Rattle.std.specs.Prelude.{◌≡◌, ◌<◌, ◌≤◌, ◌⊎◌, ℕ, List, length, reverse}
+use Rattle.stripe_layout.specs.declared.mode.Mode.TheVariants.{Supervised}
 use Rattle.array_journal.specs.declared.entry.Entry.{Entry}
 use Rattle.array_journal.specs.declared.task.Task.{Task}
 use Rattle.array_journal.specs.declared.setting.Setting.{Setting}
-use Rattle.array_journal.specs.Acts.{is_third_party}
 use Rattle.array_journal.specs.Commands.{open_count}
 use Rattle.array_journal.specs.Media.{media}
 use Rattle.array_journal.specs.May.{IsTask}
@@ -22,7 +22,7 @@ pub record HasMedia (s : Setting) (disks : List Disk) (past : List Entry) : Type
 -- no command is open, and targets and book are as the journal says
 pub record IsRest (s : Setting) (commands : ℕ) (journal : List Entry) (disks : List Disk) : Type 0 where
   pub setting : IsSetting s
-  pub supervised : is_third_party s.mode ≡ false
+  pub supervised : s.mode ≡ Supervised
   pub calm : Calm s (reverse journal)
   pub counted : commands ≡ open_count (reverse journal)
   pub targets : HasMedia s disks (reverse journal)

@@ -3,7 +3,7 @@
 ghost use Rattle.std.specs.Prelude.{◌≡◌, ◌≤◌, ◌<◌, ◌^◌, ◌/◌, length};
 ghost use Rattle.stripe_layout.specs.Layout.{IsArray};
 ghost use Rattle.stripe_check.specs.Cuts.{most_blocks};
-ghost use Rattle.xor_cli.specs.Later.{is_one_piece, can_do, can_call, later_call, first_later};
+ghost use Rattle.xor_cli.specs.Later.{can_serve_in, is_one_piece, can_do, can_call, later_call, first_later};
 
 use host_scripts::{Action, Call, Script};
 use stripe_layout::Mode;
@@ -13,6 +13,16 @@ const MODE_LINE: u64 = 8;
 
 /// The line behind the lines that each script has: of the first turns, or of the first call.
 const NEXT_LINE: u64 = 11;
+
+/// Whether updates of this mode can be run.
+fn can_serve_in(mode: Mode) -> bool
+    ensures { result ≡ can_serve_in mode }
+{
+    match mode {
+        Mode::Supervised => true,
+        Mode::ThirdParty | Mode::Readback => false,
+    }
+}
 
 /// The most blocks of a piece.
 fn most_blocks(script: &Script) -> u32
@@ -84,7 +94,7 @@ pub fn first_later(script: &Script) -> Option<u64>
     requires fewer { length script.now.calls < 2 ^ 32 }
     ensures { result ≡ first_later script.now }
 {
-    if script.mode == Mode::ThirdParty {
+    if !can_serve_in(script.mode) {
         return Some(MODE_LINE);
     }
     if !script.order.is_empty() {

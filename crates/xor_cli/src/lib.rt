@@ -8,8 +8,6 @@ mod endings;
 mod later;
 mod numerals;
 mod refusals;
-#[cfg(test)]
-mod tests;
 mod text;
 mod top;
 mod words;

@@ -1,6 +1,7 @@
 //! Why a script isn't run, and how it is said.
 
 ghost use Rattle.std.specs.Prelude.{◌≡◌, ◌++◌, IfOk, OnOk};
+ghost use Rattle.std.specs.Io.{StartsWith};
 ghost use Rattle.xor_cli.specs.RefusalTexts.{reason_of, reason_text, place_text, refusal_text, refusal_line, limit_name, excess_line};
 
 use blocks_core::{Bytes, Memory};
@@ -58,17 +59,20 @@ fn reason_text(reason: Reason) -> &'static [u8]
     }
 }
 
-#[tactic(auto, unfolding(crate::specs::RefusalTexts::place_text))]
+#[tactic(auto, using(stripe_check::proofs::Fronts::fronts), unfolding(crate::specs::RefusalTexts::place_text))]
 fn push_place(text: &mut Bytes, line: u64) -> Result<(), Memory>
-    ensures { OnOk result (text.new ≡ text.old ++ place_text line) }
+    ensures ok { OnOk result (text.new ≡ text.old ++ place_text line) }
+    ensures front { StartsWith text.new text.old }
 {
     text.push_slice(b"refused line ")?;
     push_number(text, line)?;
     text.push(b' ')
 }
 
+#[tactic(auto, using(stripe_check::proofs::Fronts::fronts))]
 fn push_refusal(text: &mut Bytes, refusal: Refusal) -> Result<(), Memory>
-    ensures { OnOk result (text.new ≡ text.old ++ refusal_text refusal) }
+    ensures ok { OnOk result (text.new ≡ text.old ++ refusal_text refusal) }
+    ensures front { StartsWith text.new text.old }
 {
     push_place(text, refusal.line)?;
     text.push_slice(reason_text(refusal.reason))

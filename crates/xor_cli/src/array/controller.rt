@@ -165,7 +165,7 @@ impl Controller {
         ensures kept { OnOk result (IsKept self.new) }
         ensures name { IfOk result (λ at. at ≡ next_at (array_of self.old).journal (target + 1)) }
         ensures array { OnOk result (array_of self.new ≡ record (array_of self.old) {
-          journal = with_next (array_of self.old).journal (target + 1) (Event.Diff served.command served.opened cdb served.row bytes false false);
+          journal = with_next (array_of self.old).journal (target + 1) (Event.Diff served.command served.opened cdb served.row bytes false false false);
           disks = with_diff (array_of self.old).disks target (served.row * self.old.setting.geometry.block) bytes;
         }) }
     {
@@ -178,6 +178,7 @@ impl Controller {
             bytes,
             sent: false,
             dropped: false,
+            back: false,
         };
         self.append_at_target(target, event)
     }

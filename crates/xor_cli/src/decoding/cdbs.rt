@@ -1,6 +1,7 @@
 //! The texts of commands.
 
 ghost use Rattle.std.specs.Prelude.{◌≡◌, ◌++◌, OnOk, codes};
+ghost use Rattle.std.specs.Io.{StartsWith};
 ghost use Rattle.xor_cli.specs.DecodeTexts.{caching, extent, transfer_text, flagged, sending, gathering, selecting, select_text, mode_sense_text, cdb_text};
 
 use crate::text::{push_field, push_flag};
@@ -8,23 +9,26 @@ use blocks_core::{Bytes, Memory};
 use sbc_cdbs::Command;
 
 /// The flags of caches.
-#[tactic(auto, unfolding(crate::specs::DecodeTexts::caching))]
+#[tactic(auto, using(stripe_check::proofs::Fronts::fronts), unfolding(crate::specs::DecodeTexts::caching))]
 fn push_caching(text: &mut Bytes, dpo: bool, fua: bool) -> Result<(), Memory>
-    ensures { OnOk result (text.new ≡ text.old ++ caching dpo fua) }
+    ensures ok { OnOk result (text.new ≡ text.old ++ caching dpo fua) }
+    ensures front { StartsWith text.new text.old }
 {
     push_flag(text, b"dpo", dpo)?;
     push_flag(text, b"fua", fua)
 }
 
 /// The blocks that a command is about.
-#[tactic(auto, unfolding(crate::specs::DecodeTexts::extent))]
+#[tactic(auto, using(stripe_check::proofs::Fronts::fronts), unfolding(crate::specs::DecodeTexts::extent))]
 fn push_extent(text: &mut Bytes, lba: u32, length: u32) -> Result<(), Memory>
-    ensures { OnOk result (text.new ≡ text.old ++ extent lba length) }
+    ensures ok { OnOk result (text.new ≡ text.old ++ extent lba length) }
+    ensures front { StartsWith text.new text.old }
 {
     push_field(text, b"lba", u64::from(lba))?;
     push_field(text, b"length", u64::from(length))
 }
 
+#[tactic(auto, using(stripe_check::proofs::Fronts::fronts))]
 fn push_transfer(
     text: &mut Bytes,
     name: &[u8],
@@ -33,7 +37,8 @@ fn push_transfer(
     lba: u32,
     length: u16,
 ) -> Result<(), Memory>
-    ensures { OnOk result (text.new ≡ text.old ++ transfer_text name.now dpo fua lba length) }
+    ensures ok { OnOk result (text.new ≡ text.old ++ transfer_text name.now dpo fua lba length) }
+    ensures front { StartsWith text.new text.old }
 {
     text.push_slice(name)?;
     push_caching(text, dpo, fua)?;
@@ -41,7 +46,7 @@ fn push_transfer(
 }
 
 /// A name with the flags of caches and one more flag.
-#[tactic(auto, unfolding(crate::specs::DecodeTexts::flagged))]
+#[tactic(auto, using(stripe_check::proofs::Fronts::fronts), unfolding(crate::specs::DecodeTexts::flagged))]
 fn push_flagged(
     text: &mut Bytes,
     name: &[u8],
@@ -50,22 +55,25 @@ fn push_flagged(
     word: &[u8],
     one: bool,
 ) -> Result<(), Memory>
-    ensures { OnOk result (text.new ≡ text.old ++ flagged name.now dpo fua word.now one) }
+    ensures ok { OnOk result (text.new ≡ text.old ++ flagged name.now dpo fua word.now one) }
+    ensures front { StartsWith text.new text.old }
 {
     text.push_slice(name)?;
     push_caching(text, dpo, fua)?;
     push_flag(text, word, one)
 }
 
+#[tactic(auto, using(stripe_check::proofs::Fronts::fronts))]
 fn push_xdread(text: &mut Bytes, lba: u32, length: u16) -> Result<(), Memory>
-    ensures { OnOk result (text.new ≡ text.old ++ (codes "XDREAD" ++ extent lba length)) }
+    ensures ok { OnOk result (text.new ≡ text.old ++ (codes "XDREAD" ++ extent lba length)) }
+    ensures front { StartsWith text.new text.old }
 {
     text.push_slice(b"XDREAD")?;
     push_extent(text, lba, u32::from(length))
 }
 
 /// Where an XDWRITE EXTENDED sends what it makes.
-#[tactic(auto, unfolding(crate::specs::DecodeTexts::sending))]
+#[tactic(auto, using(stripe_check::proofs::Fronts::fronts), unfolding(crate::specs::DecodeTexts::sending))]
 fn push_sending(
     text: &mut Bytes,
     lba: u32,
@@ -73,7 +81,8 @@ fn push_sending(
     length: u32,
     address: u8,
 ) -> Result<(), Memory>
-    ensures { OnOk result (text.new ≡ text.old ++ sending lba second length address) }
+    ensures ok { OnOk result (text.new ≡ text.old ++ sending lba second length address) }
+    ensures front { StartsWith text.new text.old }
 {
     push_field(text, b"lba", u64::from(lba))?;
     push_field(text, b"second", u64::from(second))?;
@@ -82,31 +91,36 @@ fn push_sending(
 }
 
 /// What a REBUILD or a REGENERATE makes, and how long its parameter list is.
-#[tactic(auto, unfolding(crate::specs::DecodeTexts::gathering))]
+#[tactic(auto, using(stripe_check::proofs::Fronts::fronts), unfolding(crate::specs::DecodeTexts::gathering))]
 fn push_gathering(text: &mut Bytes, lba: u32, length: u32, list: u32) -> Result<(), Memory>
-    ensures { OnOk result (text.new ≡ text.old ++ gathering lba length list) }
+    ensures ok { OnOk result (text.new ≡ text.old ++ gathering lba length list) }
+    ensures front { StartsWith text.new text.old }
 {
     push_extent(text, lba, length)?;
     push_field(text, b"list", u64::from(list))
 }
 
 /// MODE SELECT with its flags.
-#[tactic(auto, unfolding(crate::specs::DecodeTexts::selecting))]
+#[tactic(auto, using(stripe_check::proofs::Fronts::fronts), unfolding(crate::specs::DecodeTexts::selecting))]
 fn push_selecting(text: &mut Bytes, pf: bool, sp: bool) -> Result<(), Memory>
-    ensures { OnOk result (text.new ≡ text.old ++ selecting pf sp) }
+    ensures ok { OnOk result (text.new ≡ text.old ++ selecting pf sp) }
+    ensures front { StartsWith text.new text.old }
 {
     text.push_slice(b"MODE SELECT")?;
     push_flag(text, b"pf", pf)?;
     push_flag(text, b"sp", sp)
 }
 
+#[tactic(auto, using(stripe_check::proofs::Fronts::fronts))]
 fn push_mode_select(text: &mut Bytes, pf: bool, sp: bool, list: u16) -> Result<(), Memory>
-    ensures { OnOk result (text.new ≡ text.old ++ select_text pf sp list) }
+    ensures ok { OnOk result (text.new ≡ text.old ++ select_text pf sp list) }
+    ensures front { StartsWith text.new text.old }
 {
     push_selecting(text, pf, sp)?;
     push_field(text, b"list", u64::from(list))
 }
 
+#[tactic(auto, using(stripe_check::proofs::Fronts::fronts))]
 fn push_mode_sense(
     text: &mut Bytes,
     dbd: bool,
@@ -114,7 +128,8 @@ fn push_mode_sense(
     page: u8,
     allocation: u16,
 ) -> Result<(), Memory>
-    ensures { OnOk result (text.new ≡ text.old ++ mode_sense_text dbd pc page allocation) }
+    ensures ok { OnOk result (text.new ≡ text.old ++ mode_sense_text dbd pc page allocation) }
+    ensures front { StartsWith text.new text.old }
 {
     text.push_slice(b"MODE SENSE")?;
     push_flag(text, b"dbd", dbd)?;
@@ -124,8 +139,10 @@ fn push_mode_sense(
 }
 
 /// The name of a command, and its fields.
+#[tactic(auto, using(stripe_check::proofs::Fronts::fronts))]
 pub fn push_cdb(text: &mut Bytes, command: &Command) -> Result<(), Memory>
-    ensures { OnOk result (text.new ≡ text.old ++ cdb_text command.now) }
+    ensures ok { OnOk result (text.new ≡ text.old ++ cdb_text command.now) }
+    ensures front { StartsWith text.new text.old }
 {
     let command = *command;
     match command {
@@ -158,6 +175,16 @@ pub fn push_cdb(text: &mut Bytes, command: &Command) -> Result<(), Memory>
             length,
         } => push_transfer(text, b"XPWRITE", dpo, fua, lba, length),
         Command::XdRead { lba, length } => push_xdread(text, lba, length),
+        Command::XdWriteRead {
+            dpo,
+            fua,
+            disable,
+            lba,
+            length,
+        } => {
+            push_flagged(text, b"XDWRITEREAD", dpo, fua, b"disable", disable)?;
+            push_extent(text, lba, u32::from(length))
+        },
         Command::ModeSelect { pf, sp, list } => push_mode_select(text, pf, sp, list),
         Command::ModeSense {
             dbd,

@@ -1,6 +1,7 @@
 //! The lines of values and of faults.
 
 ghost use Rattle.std.specs.Prelude.{◌≡◌, ◌++◌, ◌∷◌, [], IfOk, OnOk, codes};
+ghost use Rattle.std.specs.Io.{StartsWith};
 ghost use Rattle.host_scripts.specs.Scripts.{hex};
 ghost use Rattle.xor_cli.specs.DecodeTexts.{field, value_text, fault_text, value_line, fault_line};
 
@@ -15,7 +16,8 @@ use std::alloc::Global;
 use stripe_check::push_hex;
 
 fn push_value(text: &mut Bytes, value: &Value) -> Result<(), Memory>
-    ensures { OnOk result (text.new ≡ text.old ++ value_text value.now) }
+    ensures ok { OnOk result (text.new ≡ text.old ++ value_text value.now) }
+    ensures front { StartsWith text.new text.old }
 {
     match value {
         Value::Cdb(command) => push_cdb(text, command),
@@ -35,22 +37,28 @@ pub fn value_line(alloc: Global, value: &Value) -> Result<Bytes, Memory>
     Ok(text)
 }
 
+#[tactic(auto, using(stripe_check::proofs::Fronts::fronts))]
 fn push_coded(text: &mut Bytes, name: &[u8], code: u8) -> Result<(), Memory>
-    ensures { OnOk result (text.new ≡ text.old ++ (name.now ++ hex (code ∷ []))) }
+    ensures ok { OnOk result (text.new ≡ text.old ++ (name.now ++ hex (code ∷ []))) }
+    ensures front { StartsWith text.new text.old }
 {
     text.push_slice(name)?;
     push_hex(text, &[code])
 }
 
+#[tactic(auto, using(stripe_check::proofs::Fronts::fronts))]
 fn push_placed(text: &mut Bytes, name: &[u8], byte: u32) -> Result<(), Memory>
-    ensures { OnOk result (text.new ≡ text.old ++ (name.now ++ field (codes "byte") byte)) }
+    ensures ok { OnOk result (text.new ≡ text.old ++ (name.now ++ field (codes "byte") byte)) }
+    ensures front { StartsWith text.new text.old }
 {
     text.push_slice(name)?;
     push_field(text, b"byte", u64::from(byte))
 }
 
+#[tactic(auto, using(stripe_check::proofs::Fronts::fronts))]
 fn push_length(text: &mut Bytes, want: u64, got: u64) -> Result<(), Memory>
-    ensures { OnOk result (text.new ≡ text.old ++ (codes "fault length" ++ (field (codes "want") want ++ field (codes "got") got))) }
+    ensures ok { OnOk result (text.new ≡ text.old ++ (codes "fault length" ++ (field (codes "want") want ++ field (codes "got") got))) }
+    ensures front { StartsWith text.new text.old }
 {
     text.push_slice(b"fault length")?;
     push_field(text, b"want", want)?;
@@ -58,7 +66,8 @@ fn push_length(text: &mut Bytes, want: u64, got: u64) -> Result<(), Memory>
 }
 
 fn push_fault(text: &mut Bytes, fault: Fault) -> Result<(), Memory>
-    ensures { OnOk result (text.new ≡ text.old ++ fault_text fault) }
+    ensures ok { OnOk result (text.new ≡ text.old ++ fault_text fault) }
+    ensures front { StartsWith text.new text.old }
 {
     match fault {
         Fault::OpCode { code } => push_coded(text, b"fault opcode ", code),

@@ -1,6 +1,7 @@
 //! The text of sense data.
 
 ghost use Rattle.std.specs.Prelude.{◌≡◌, ◌<◌, ◌++◌, OnOk};
+ghost use Rattle.std.specs.Io.{StartsWith};
 ghost use Rattle.xor_cli.specs.DecodeTexts.{block_name, pointer_text, codes_text, details_text, key_text, place_text, sense_text};
 
 use crate::text::{push_field, push_optional};
@@ -15,9 +16,10 @@ fn block_name(command: bool) -> &'static [u8]
     if command { b"cdb" } else { b"list" }
 }
 
-#[tactic(auto, unfolding(crate::specs::DecodeTexts::pointer_text))]
+#[tactic(auto, using(stripe_check::proofs::Fronts::fronts), unfolding(crate::specs::DecodeTexts::pointer_text))]
 fn push_pointer(text: &mut Bytes, pointer: Option<Pointer>) -> Result<(), Memory>
-    ensures { OnOk result (text.new ≡ text.old ++ pointer_text pointer) }
+    ensures ok { OnOk result (text.new ≡ text.old ++ pointer_text pointer) }
+    ensures front { StartsWith text.new text.old }
 {
     match pointer {
         None => text.push(b'-'),
@@ -31,9 +33,10 @@ fn push_pointer(text: &mut Bytes, pointer: Option<Pointer>) -> Result<(), Memory
 }
 
 /// The additional sense code and its qualifier.
-#[tactic(auto, unfolding(crate::specs::DecodeTexts::codes_text))]
+#[tactic(auto, using(stripe_check::proofs::Fronts::fronts), unfolding(crate::specs::DecodeTexts::codes_text))]
 fn push_codes(text: &mut Bytes, asc: u8, ascq: u8) -> Result<(), Memory>
-    ensures { OnOk result (text.new ≡ text.old ++ codes_text asc ascq) }
+    ensures ok { OnOk result (text.new ≡ text.old ++ codes_text asc ascq) }
+    ensures front { StartsWith text.new text.old }
 {
     text.push_slice(b" asc ")?;
     push_upper_byte(text, asc)?;
@@ -42,14 +45,15 @@ fn push_codes(text: &mut Bytes, asc: u8, ascq: u8) -> Result<(), Memory>
 }
 
 /// The numbers that go with a sense.
-#[tactic(auto, unfolding(crate::specs::DecodeTexts::details_text))]
+#[tactic(auto, using(stripe_check::proofs::Fronts::fronts), unfolding(crate::specs::DecodeTexts::details_text))]
 fn push_details(
     text: &mut Bytes,
     information: Option<u32>,
     specific: u32,
     fru: u8,
 ) -> Result<(), Memory>
-    ensures { OnOk result (text.new ≡ text.old ++ details_text information specific fru) }
+    ensures ok { OnOk result (text.new ≡ text.old ++ details_text information specific fru) }
+    ensures front { StartsWith text.new text.old }
 {
     text.push_slice(b" info ")?;
     push_optional(text, information.map(u64::from))?;
@@ -57,25 +61,29 @@ fn push_details(
     push_field(text, b"fru", u64::from(fru))
 }
 
-#[tactic(auto, unfolding(crate::specs::DecodeTexts::key_text))]
+#[tactic(auto, using(stripe_check::proofs::Fronts::fronts), unfolding(crate::specs::DecodeTexts::key_text))]
 fn push_key(text: &mut Bytes, key: u8) -> Result<(), Memory>
     requires { key < 16 }
-    ensures { OnOk result (text.new ≡ text.old ++ key_text key) }
+    ensures ok { OnOk result (text.new ≡ text.old ++ key_text key) }
+    ensures front { StartsWith text.new text.old }
 {
     text.push_slice(b"sense key ")?;
     text.push(upper_nibble(key))
 }
 
-#[tactic(auto, unfolding(crate::specs::DecodeTexts::place_text))]
+#[tactic(auto, using(stripe_check::proofs::Fronts::fronts), unfolding(crate::specs::DecodeTexts::place_text))]
 fn push_place(text: &mut Bytes, pointer: Option<Pointer>) -> Result<(), Memory>
-    ensures { OnOk result (text.new ≡ text.old ++ place_text pointer) }
+    ensures ok { OnOk result (text.new ≡ text.old ++ place_text pointer) }
+    ensures front { StartsWith text.new text.old }
 {
     text.push_slice(b" pointer ")?;
     push_pointer(text, pointer)
 }
 
+#[tactic(auto, using(stripe_check::proofs::Fronts::fronts))]
 pub fn push_sense(text: &mut Bytes, sense: &Sense) -> Result<(), Memory>
-    ensures { OnOk result (text.new ≡ text.old ++ sense_text sense.now) }
+    ensures ok { OnOk result (text.new ≡ text.old ++ sense_text sense.now) }
+    ensures front { StartsWith text.new text.old }
 {
     push_key(text, sense.key)?;
     push_codes(text, sense.asc, sense.ascq)?;
