@@ -1,12 +1,12 @@
 -- What is found of an input, from its parts; and that an input that is accepted is found to be nothing else.
-use Rattle.std.proofs.Common.{◌≡◌, ℕ, ◌+◌, ◌≤◌, ◌<◌, List, [], ◌∷◌, ◌++◌, length, take, Option, Some, None, refl, sym, ap, subst, ◌∙◌, length-append, length-take, arith}
+use Rattle.std.proofs.Common.{◌≡◌, ℕ, ◌+◌, ◌≤◌, ◌<◌, List, [], ◌∷◌, ◌++◌, length, take, Option, Some, None, refl, sym, ap, subst, ◌∙◌, length-take, arith}
 use Rattle.std.specs.Prelude.{IfSome}
 use Rattle.std.specs.List.{flat_map}
 use Rattle.std.proofs.lemmas.List.{take_all}
-use Rattle.std.specs.Io.KnownBytes.{IsAtEnd}
 use Rattle.std.proofs.lemmas.Option.{none-some, same_Some}
 use Rattle.array_journal.specs.declared.entry.Entry.{Entry}
-use Rattle.array_journal.specs.Run.{IsSetting, Run}
+use Rattle.array_journal.specs.Run.{IsSetting}
+use Rattle.array_journal.proofs.GuardedRuns.{guarded_law}
 use Rattle.array_journal.proofs.KeptRuns.{conserved_law}
 use Rattle.array_journal.proofs.ReadsRight.{legal_law}
 use Rattle.host_scripts.specs.declared.script.Script.{Script}
@@ -15,18 +15,16 @@ use Rattle.host_scripts.specs.Scripts.{IsScript, spelling}
 use Rattle.host_scripts.specs.Limits.{limit_of}
 use Rattle.host_scripts.proofs.Again.{script-again}
 use Rattle.host_scripts.proofs.Loops.{same-ok}
-use Rattle.outer_io.specs.Outside.{HasRisen, input_limit}
-use Rattle.stripe_check.specs.Asked.{IsAsked}
+use Rattle.outer_io.specs.Outside.{input_limit}
 use Rattle.stripe_check.specs.Reports.{setting_of, report_of}
 use Rattle.stripe_check.specs.Traces.{entry_line, trace_of}
 use Rattle.trace_check.specs.declared.checking.findings.Finding.{Finding}
 use Rattle.trace_check.specs.declared.checking.findings.Finding.TheVariants.{TooLong, Refused, Over, TextLine, RunEntry, Unasked, ReportLine}
 use Rattle.trace_check.specs.declared.checking.findings.Stop.{Stop}
 use Rattle.trace_check.specs.declared.checking.findings.Stop.TheVariants.{Usage, ReadFault, Found, Memory}
-use Rattle.trace_check.specs.Endings.{StopsBy, StopsCheck, IsReadWhole, IsRunOf}
+use Rattle.trace_check.specs.Endings.{StopsBy, StopsCheck, IsRunOf}
 use Rattle.trace_check.specs.Findings.{HasJournal, IsRunIn, IsFoundOf, IsFoundFor, IsFoundIn, IsFoundAt, IsFound, IsAccepted, IsSound}
-use Rattle.trace_check.specs.Inputs.{Parts, parts_of, output_line}
-use Rattle.trace_check.specs.Readable as readable
+use Rattle.trace_check.specs.Inputs.{Parts, parts_of}
 use Rattle.trace_check.proofs.Inputs.{parts-whole}
 use Rattle.trace_check.proofs.TraceLaws.{line-longer, no-fault, one-journal}
 
@@ -81,6 +79,7 @@ run-sound input parts script journal short e run =
       whole = parts-whole input _ (e ∙ ap (λ (p : Parts). Some p) same);
       conserved = conserved_law (setting_of script) journal setting run.run;
       legal = legal_law (setting_of script) journal setting run.run;
+      guarded = guarded_law (setting_of script) journal run.run;
     }
 
 -- ---- an input that is accepted is found to be nothing else
@@ -142,13 +141,6 @@ one-run input script other journal entries a b =
     one-journal (trace_of journal) journal entries (refl, a.readable) (ap (λ (p : Parts). p.trace) same, b.readable)
 
 -- ---- from the bytes that were read to those that the source had
-
--- nothing is left of an input that was read and isn't too long
-pub whole-left : (left rest : Option (List ℕ)) (bytes : List ℕ) → IfSome left (λ all. bytes ≡ take (input_limit + 1) all) → (length bytes ≤ input_limit → IsAtEnd rest) → IsReadWhole left rest
-whole-left None rest bytes e end = tt
-whole-left (Some all) rest bytes e end = λ short.
-    let l : length bytes ≡ length (take (input_limit + 1) all) = ap (λ (t : List ℕ). length t) e in
-    end (omega (arith, l, short, length-take (input_limit + 1) all))
 
 whole-read : (left bytes : List ℕ) → bytes ≡ take (input_limit + 1) left → length bytes ≤ input_limit → bytes ≡ left
 whole-read left bytes e short =

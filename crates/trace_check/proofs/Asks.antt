@@ -1,6 +1,6 @@
 -- What words ask for, and what stops a check.
-use Rattle.std.proofs.Common.{◌≡◌, ℕ, ◌+◌, ◌≤◌, ◌<◌, List, [], ◌∷◌, length, take, Bool, true, false, Option, Some, None, refl, sym, ap, subst, ◌∙◌, ◌⊎◌, inl, inr, length-take, arith}
-use Rattle.std.specs.Prelude.{IsTrue, IsFalse, IfSome, codes}
+use Rattle.std.proofs.Common.{◌≡◌, ℕ, List, [], ◌∷◌, Bool, true, false, Some, None, refl, sym, ap, subst, ◌∙◌, inl, inr}
+use Rattle.std.specs.Prelude.{IsTrue, IsFalse, codes}
 use Rattle.std.specs.Str.{bytes_eq}
 use Rattle.std.proofs.lemmas.Slice.Eq.{bytes_eq-Decides}
 use Rattle.std.proofs.lemmas.Option.{none-some, same_Some}
@@ -8,7 +8,6 @@ use Rattle.trace_check.specs.declared.checking.findings.Finding.{Finding}
 use Rattle.trace_check.specs.declared.checking.findings.Stop.{Stop}
 use Rattle.trace_check.specs.declared.checking.findings.Stop.TheVariants.{Usage, ReadFault, Found, Memory}
 use Rattle.trace_check.specs.Endings.{AsksCheck, single_of, StopsBy, IsStopOf}
-use Rattle.trace_check.specs.Notes.{finding_line}
 
 single-is : (words : List (List ℕ)) (word : List ℕ) → single_of words ≡ Some word → words ≡ word ∷ []
 single-is [] word e = absurd (none-some word e)

@@ -1,21 +1,19 @@
 -- Which statuses an input is answered with, one that is accepted and one that isn't.
-use Rattle.std.proofs.Common.{◌≡◌, ◌≢◌, ℕ, ◌≤◌, List, [], ◌∷◌, length, Option, Some, None, inl, inr, ◌⊎◌, ap, sym, subst, ◌∙◌, arith}
+use Rattle.std.proofs.Common.{◌≡◌, ◌≢◌, ℕ, List, [], ◌∷◌, length, Option, Some, None, inl, inr, ◌⊎◌, ap, sym, subst, ◌∙◌}
 use Rattle.std.specs.Prelude.{IfSome, Result, Ok, Err, MatchResult}
-use Rattle.std.specs.Io.KnownBytes.{Appends, IsAtEnd}
-use Rattle.std.proofs.lemmas.Option.{same_Some}
+use Rattle.std.specs.Io.KnownBytes.{Appends}
 use Rattle.array_journal.specs.declared.entry.Entry.{Entry}
 use Rattle.host_scripts.specs.declared.script.Script.{Script}
 use Rattle.outer_io.specs.declared.input.InputFault.{InputFault}
 use Rattle.outer_io.specs.declared.input.InputFault.TheVariants as faults
-use Rattle.outer_io.specs.Outside.{HasRisen, AppendsPrefix, input_limit}
+use Rattle.outer_io.specs.Outside.{HasRisen, AppendsPrefix}
 use Rattle.trace_check.specs.declared.checking.findings.Finding.{Finding}
 use Rattle.trace_check.specs.declared.checking.findings.Finding.TheVariants.{TooLong, Refused, Over, TextLine, RunEntry, Unasked, ReportLine}
 use Rattle.trace_check.specs.declared.checking.findings.Stop.{Stop}
 use Rattle.trace_check.specs.declared.checking.findings.Stop.TheVariants.{Usage, ReadFault, Found, Memory}
-use Rattle.trace_check.specs.Endings.{AfterReading, AsksCheck, IsNoteCutShort, IsOneOf, IsReadWhole, IsTold, StopsFor, finding_status, status_of, note_of}
+use Rattle.trace_check.specs.Endings.{AfterReading, AsksCheck, IsCutShort, IsNoteCutShort, IsNoted, IsOneOf, IsInputTaken, IsTold, StopsFor, finding_status, status_of, note_of}
 use Rattle.trace_check.specs.Faulted.{stop_of}
 use Rattle.trace_check.specs.Findings.{IsAccepted, IsFound}
-use Rattle.trace_check.specs.Inputs.{Parts}
 use Rattle.trace_check.specs.Notes.{finding_line, accepted_line}
 use Rattle.trace_check.proofs.Accepted.{accepted-not, one-run}
 use Rattle.trace_check.proofs.OneFinding.{one-finding}
@@ -100,10 +98,35 @@ not-four ReadFault = λ a. cc a
 not-four (Found f note) = finding-not_four f
 not-four Memory = λ a. cc a
 
-pub stop-cut_short : (words : List (List ℕ)) (left : Option (List ℕ)) (before after status : ℕ) (stop : Stop) (old new : Option (List ℕ)) (nb na : ℕ) → StopsFor words left before after stop → NotedStop status stop old new nb na
-    → (status ≡ 4 → AppendsPrefix old new (note_of stop)) → status ≡ 4 → HasRisen nb na × IsNoteCutShort words left before after old new
-stop-cut_short words left before after status stop old new nb na s (inl e) begun four = absurd (not-four stop (sym e.0 ∙ four))
-stop-cut_short words left before after status stop old new nb na s (inr e) begun four = (e.1, (stop, (s, begun four)))
+-- what a stop says once the input is read; one that comes of the words says nothing
+read-after : (Said : Type 0) (words : List (List ℕ)) (left : Option (List ℕ)) (before after : ℕ) (stop : Stop) → StopsFor words left before after stop → (AsksCheck words → AfterReading Said stop) → AfterReading Said stop
+read-after Said words left before after Usage s whole = tt
+read-after Said words left before after ReadFault s whole = tt
+read-after Said words left before after (Found f note) s whole = whole s.0
+read-after Said words left before after Memory s whole = tt
+
+pub stop-cut_short : (words : List (List ℕ)) (left rest : Option (List ℕ)) (before after status : ℕ) (stop : Stop) (old new : Option (List ℕ)) (nb na : ℕ) → StopsFor words left before after stop
+    → (AsksCheck words → AfterReading (IsInputTaken left rest) stop) → NotedStop status stop old new nb na
+    → (status ≡ 4 → AppendsPrefix old new (note_of stop)) → status ≡ 4 → HasRisen nb na × IsNoteCutShort words left rest before after old new
+stop-cut_short words left rest before after status stop old new nb na s whole (inl e) begun four = absurd (not-four stop (sym e.0 ∙ four))
+stop-cut_short words left rest before after status stop old new nb na s whole (inr e) begun four =
+    (e.1, (stop, (s, read-after (IsInputTaken left rest) words left before after stop s whole, begun four)))
+
+pub told-cut_short : (words : List (List ℕ)) (left rest : Option (List ℕ)) (text : List ℕ) (status : ℕ) (old new : Option (List ℕ)) (ob oa : ℕ) → IsTold words left text
+    → (AsksCheck words → IsInputTaken left rest) → HandedOut status old new ob oa text → status ≡ 4 → HasRisen ob oa × IsCutShort words left old new × IsInputTaken left rest
+told-cut_short words left rest text status old new ob oa told whole (inl e) four = let no : 0 ≡ 4 = sym e.0 ∙ four in absurd (cc no)
+told-cut_short words left rest text status old new ob oa told whole (inr e) four = (e.1, (text, (told, e.2)), whole told.0)
+
+-- ---- a status that findings alone have
+
+pub stop-noted : (words : List (List ℕ)) (left : Option (List ℕ)) (before after status n : ℕ) (stop : Stop) (old new : Option (List ℕ)) (nb na : ℕ) → StopsFor words left before after stop → NotedStop status stop old new nb na
+    → status ≡ n → n ≢ 3 → n ≢ 4 → n ≢ 5 → n ≢ 64 → IsNoted words left n old new
+stop-noted words left before after status n stop old new nb na s (inr e) is three four five usage = absurd (four (sym is ∙ e.0))
+stop-noted words left before after status n Usage old new nb na s (inl e) is three four five usage = absurd (usage (sym is ∙ e.0))
+stop-noted words left before after status n ReadFault old new nb na s (inl e) is three four five usage = absurd (three (sym is ∙ e.0))
+stop-noted words left before after status n (Found f note) old new nb na s (inl e) is three four five usage =
+    (s.0, (f, (s.1.0, (sym e.0 ∙ is, subst (λ (t : List ℕ). Appends old new t) s.1.1 e.1))))
+stop-noted words left before after status n Memory old new nb na s (inl e) is three four five usage = absurd (five (sym is ∙ e.0))
 
 -- ---- what is read
 
@@ -115,12 +138,12 @@ not-read status n e zero one two seven (inr (inr (inl a))) = two (sym e ∙ a)
 not-read status n e zero one two seven (inr (inr (inr (inl a)))) = seven (sym e ∙ a)
 not-read status n e zero one two seven (inr (inr (inr (inr none)))) = absurd none
 
-pub stop-read_whole : (Said : Type 0) (status : ℕ) (stop : Stop) (old new : Option (List ℕ)) (nb na : ℕ) → AfterReading Said stop → NotedStop status stop old new nb na → IsOneOf (0 ∷ 1 ∷ 2 ∷ 7 ∷ []) status → Said
-stop-read_whole Said status stop old new nb na said (inr e) one = absurd (not-read status 4 e.0 (λ a. cc a) (λ a. cc a) (λ a. cc a) (λ a. cc a) one)
-stop-read_whole Said status Usage old new nb na said (inl e) one = absurd (not-read status 64 e.0 (λ a. cc a) (λ a. cc a) (λ a. cc a) (λ a. cc a) one)
-stop-read_whole Said status ReadFault old new nb na said (inl e) one = absurd (not-read status 3 e.0 (λ a. cc a) (λ a. cc a) (λ a. cc a) (λ a. cc a) one)
-stop-read_whole Said status (Found f note) old new nb na said (inl e) one = said
-stop-read_whole Said status Memory old new nb na said (inl e) one = absurd (not-read status 5 e.0 (λ a. cc a) (λ a. cc a) (λ a. cc a) (λ a. cc a) one)
+pub stop-taken : (Said : Type 0) (status : ℕ) (stop : Stop) (old new : Option (List ℕ)) (nb na : ℕ) → AfterReading Said stop → NotedStop status stop old new nb na → IsOneOf (0 ∷ 1 ∷ 2 ∷ 7 ∷ []) status → Said
+stop-taken Said status stop old new nb na said (inr e) one = absurd (not-read status 4 e.0 (λ a. cc a) (λ a. cc a) (λ a. cc a) (λ a. cc a) one)
+stop-taken Said status Usage old new nb na said (inl e) one = absurd (not-read status 64 e.0 (λ a. cc a) (λ a. cc a) (λ a. cc a) (λ a. cc a) one)
+stop-taken Said status ReadFault old new nb na said (inl e) one = absurd (not-read status 3 e.0 (λ a. cc a) (λ a. cc a) (λ a. cc a) (λ a. cc a) one)
+stop-taken Said status (Found f note) old new nb na said (inl e) one = said
+stop-taken Said status Memory old new nb na said (inl e) one = absurd (not-read status 5 e.0 (λ a. cc a) (λ a. cc a) (λ a. cc a) (λ a. cc a) one)
 
 after-any : (Said : Type 0) (stop : Stop) → Said → AfterReading Said stop
 after-any Said Usage said = tt

@@ -140,10 +140,10 @@ place-part = record { takes = place-takes; again = place-again; begins = λ x re
 abbrev pub title : Event → Name
 title (events.Fetch command opened cdb row bytes) = titles.Fetch
 title (events.Put command opened cdb row bytes names) = titles.Put
-title (events.Diff command opened cdb row bytes sent dropped) = titles.Diff
+title (events.Diff command opened cdb row bytes sent dropped back) = titles.Diff
 title (events.Take command opened cdb row bytes) = titles.Take
 title (events.Fold command opened cdb row bytes names) = titles.Fold
-title (events.Hold command opened cdb row bytes kept names) = titles.Hold
+title (events.Hold command opened cdb row bytes kept names back) = titles.Hold
 title (events.Shut command opened acted lost) = titles.Shut
 title (events.Gone life call commands) = titles.Gone
 title (events.Wiped what call commands) = titles.Wiped
@@ -159,10 +159,10 @@ title (events.Refuse call piece why) = titles.Refuse
 abbrev pub fields : Event → List ℕ
 fields (events.Fetch command opened cdb row bytes) = act_text command opened cdb row bytes
 fields (events.Put command opened cdb row bytes names) = act_text command opened cdb row bytes ++ field (names_text names)
-fields (events.Diff command opened cdb row bytes sent dropped) = act_text command opened cdb row bytes ++ (field (flag_text sent) ++ field (flag_text dropped))
+fields (events.Diff command opened cdb row bytes sent dropped back) = act_text command opened cdb row bytes ++ (field (flag_text sent) ++ (field (flag_text dropped) ++ field (flag_text back)))
 fields (events.Take command opened cdb row bytes) = act_text command opened cdb row bytes
 fields (events.Fold command opened cdb row bytes names) = act_text command opened cdb row bytes ++ field (names_text names)
-fields (events.Hold command opened cdb row bytes kept names) = act_text command opened cdb row bytes ++ (field (flag_text kept) ++ field (names_text names))
+fields (events.Hold command opened cdb row bytes kept names back) = act_text command opened cdb row bytes ++ (field (flag_text kept) ++ (field (names_text names) ++ field (flag_text back)))
 fields (events.Shut command opened acted lost) = field (decimal command) ++ (field (at_text opened) ++ (field (flag_text acted) ++ field (cause_text lost)))
 fields (events.Gone life call commands) = field (decimal life) ++ (field (decimal call) ++ field (owners_text commands))
 fields (events.Wiped what call commands) = field (what_text what) ++ (field (decimal call) ++ field (owners_text commands))
@@ -177,10 +177,10 @@ fields (events.Refuse call piece why) = field (decimal call) ++ (field (decimal 
 pub event-parts : (e : Event) → event_text e ≡ name_text (title e) ++ fields e
 event-parts (events.Fetch command opened cdb row bytes) = refl
 event-parts (events.Put command opened cdb row bytes names) = refl
-event-parts (events.Diff command opened cdb row bytes sent dropped) = refl
+event-parts (events.Diff command opened cdb row bytes sent dropped back) = refl
 event-parts (events.Take command opened cdb row bytes) = refl
 event-parts (events.Fold command opened cdb row bytes names) = refl
-event-parts (events.Hold command opened cdb row bytes kept names) = refl
+event-parts (events.Hold command opened cdb row bytes kept names back) = refl
 event-parts (events.Shut command opened acted lost) = refl
 event-parts (events.Gone life call commands) = refl
 event-parts (events.Wiped what call commands) = refl
@@ -196,10 +196,10 @@ event-parts (events.Refuse call piece why) = refl
 pub fields-begin : (e : Event) (rest : List ℕ) → ends (fields e ++ rest) ≡ true
 fields-begin (events.Fetch command opened cdb row bytes) rest = refl
 fields-begin (events.Put command opened cdb row bytes names) rest = refl
-fields-begin (events.Diff command opened cdb row bytes sent dropped) rest = refl
+fields-begin (events.Diff command opened cdb row bytes sent dropped back) rest = refl
 fields-begin (events.Take command opened cdb row bytes) rest = refl
 fields-begin (events.Fold command opened cdb row bytes names) rest = refl
-fields-begin (events.Hold command opened cdb row bytes kept names) rest = refl
+fields-begin (events.Hold command opened cdb row bytes kept names back) rest = refl
 fields-begin (events.Shut command opened acted lost) rest = refl
 fields-begin (events.Gone life call commands) rest = refl
 fields-begin (events.Wiped what call commands) rest = refl
@@ -232,7 +232,7 @@ put-takes bytes e rest h =
 diff-takes : (bytes : List ℕ) (e : Event) (rest : List ℕ) → diff_at bytes ≡ Some (e, rest) → IsFound titles.Diff bytes e rest
 unfolding diff_at
 diff-takes bytes e rest h =
-    let t = takes-3 Act Bool Bool Event act_fields ActFits act_at (λ flag. field (flag_text flag)) (Always Bool) (field_of flag_of) (λ flag. field (flag_text flag)) (Always Bool) (field_of flag_of) act-part flag-part flag-part (λ (a : Act) (b : Bool) (c : Bool). events.Diff a.command a.opened a.cdb a.row a.bytes b c) bytes rest e h in
+    let t = takes-4 Act Bool Bool Bool Event act_fields ActFits act_at (λ flag. field (flag_text flag)) (Always Bool) (field_of flag_of) (λ flag. field (flag_text flag)) (Always Bool) (field_of flag_of) (λ flag. field (flag_text flag)) (Always Bool) (field_of flag_of) act-part flag-part flag-part flag-part (λ (a : Act) (b : Bool) (c : Bool) (d : Bool). events.Diff a.command a.opened a.cdb a.row a.bytes b c d) bytes rest e h in
     subst (λ (x : Event). IsFound titles.Diff bytes x rest) t.made (record { spelt = t.spelt; named = refl; fits = t.fits_a })
 
 take-takes : (bytes : List ℕ) (e : Event) (rest : List ℕ) → take_at bytes ≡ Some (e, rest) → IsFound titles.Take bytes e rest
@@ -250,7 +250,7 @@ fold-takes bytes e rest h =
 hold-takes : (bytes : List ℕ) (e : Event) (rest : List ℕ) → hold_at bytes ≡ Some (e, rest) → IsFound titles.Hold bytes e rest
 unfolding hold_at
 hold-takes bytes e rest h =
-    let t = takes-3 Act Bool (List At) Event act_fields ActFits act_at (λ flag. field (flag_text flag)) (Always Bool) (field_of flag_of) (λ names. field (names_text names)) AreNames (field_of (listed_of at_of)) act-part flag-part names-part (λ (a : Act) (b : Bool) (c : (List At)). events.Hold a.command a.opened a.cdb a.row a.bytes b c) bytes rest e h in
+    let t = takes-4 Act Bool (List At) Bool Event act_fields ActFits act_at (λ flag. field (flag_text flag)) (Always Bool) (field_of flag_of) (λ names. field (names_text names)) AreNames (field_of (listed_of at_of)) (λ flag. field (flag_text flag)) (Always Bool) (field_of flag_of) act-part flag-part names-part flag-part (λ (a : Act) (b : Bool) (c : (List At)) (d : Bool). events.Hold a.command a.opened a.cdb a.row a.bytes b c d) bytes rest e h in
     subst (λ (x : Event). IsFound titles.Hold bytes x rest) t.made (record { spelt = t.spelt; named = refl; fits = (t.fits_a, t.fits_c) })
 
 shut-takes : (bytes : List ℕ) (e : Event) (rest : List ℕ) → shut_at bytes ≡ Some (e, rest) → IsFound titles.Shut bytes e rest
@@ -346,12 +346,12 @@ put-again command opened cdb row bytes names rest h stop =
     let act : Act = record { command = command; opened = opened; cdb = cdb; row = row; bytes = bytes } in
     again-2 Act (List At) Event act_fields ActFits act_at (λ names. field (names_text names)) AreNames (field_of (listed_of at_of)) act-part names-part (λ (a : Act) (b : (List At)). events.Put a.command a.opened a.cdb a.row a.bytes b) act names rest h.0 h.1 stop
 
-diff-again : (command : ℕ) (opened : At) (cdb : Cdb) (row : ℕ) (bytes : List ℕ) (sent : Bool) (dropped : Bool) (rest : List ℕ) → IsEvent (events.Diff command opened cdb row bytes sent dropped) → ends rest ≡ true
-    → diff_at (fields (events.Diff command opened cdb row bytes sent dropped) ++ rest) ≡ Some (events.Diff command opened cdb row bytes sent dropped, rest)
+diff-again : (command : ℕ) (opened : At) (cdb : Cdb) (row : ℕ) (bytes : List ℕ) (sent : Bool) (dropped : Bool) (back : Bool) (rest : List ℕ) → IsEvent (events.Diff command opened cdb row bytes sent dropped back) → ends rest ≡ true
+    → diff_at (fields (events.Diff command opened cdb row bytes sent dropped back) ++ rest) ≡ Some (events.Diff command opened cdb row bytes sent dropped back, rest)
 unfolding diff_at
-diff-again command opened cdb row bytes sent dropped rest h stop =
+diff-again command opened cdb row bytes sent dropped back rest h stop =
     let act : Act = record { command = command; opened = opened; cdb = cdb; row = row; bytes = bytes } in
-    again-3 Act Bool Bool Event act_fields ActFits act_at (λ flag. field (flag_text flag)) (Always Bool) (field_of flag_of) (λ flag. field (flag_text flag)) (Always Bool) (field_of flag_of) act-part flag-part flag-part (λ (a : Act) (b : Bool) (c : Bool). events.Diff a.command a.opened a.cdb a.row a.bytes b c) act sent dropped rest h tt tt stop
+    again-4 Act Bool Bool Bool Event act_fields ActFits act_at (λ flag. field (flag_text flag)) (Always Bool) (field_of flag_of) (λ flag. field (flag_text flag)) (Always Bool) (field_of flag_of) (λ flag. field (flag_text flag)) (Always Bool) (field_of flag_of) act-part flag-part flag-part flag-part (λ (a : Act) (b : Bool) (c : Bool) (d : Bool). events.Diff a.command a.opened a.cdb a.row a.bytes b c d) act sent dropped back rest h tt tt tt stop
 
 take-again : (command : ℕ) (opened : At) (cdb : Cdb) (row : ℕ) (bytes : List ℕ) (rest : List ℕ) → IsEvent (events.Take command opened cdb row bytes) → ends rest ≡ true
     → take_at (fields (events.Take command opened cdb row bytes) ++ rest) ≡ Some (events.Take command opened cdb row bytes, rest)
@@ -367,12 +367,12 @@ fold-again command opened cdb row bytes names rest h stop =
     let act : Act = record { command = command; opened = opened; cdb = cdb; row = row; bytes = bytes } in
     again-2 Act (List At) Event act_fields ActFits act_at (λ names. field (names_text names)) AreNames (field_of (listed_of at_of)) act-part names-part (λ (a : Act) (b : (List At)). events.Fold a.command a.opened a.cdb a.row a.bytes b) act names rest h.0 h.1 stop
 
-hold-again : (command : ℕ) (opened : At) (cdb : Cdb) (row : ℕ) (bytes : List ℕ) (kept : Bool) (names : List At) (rest : List ℕ) → IsEvent (events.Hold command opened cdb row bytes kept names) → ends rest ≡ true
-    → hold_at (fields (events.Hold command opened cdb row bytes kept names) ++ rest) ≡ Some (events.Hold command opened cdb row bytes kept names, rest)
+hold-again : (command : ℕ) (opened : At) (cdb : Cdb) (row : ℕ) (bytes : List ℕ) (kept : Bool) (names : List At) (back : Bool) (rest : List ℕ) → IsEvent (events.Hold command opened cdb row bytes kept names back) → ends rest ≡ true
+    → hold_at (fields (events.Hold command opened cdb row bytes kept names back) ++ rest) ≡ Some (events.Hold command opened cdb row bytes kept names back, rest)
 unfolding hold_at
-hold-again command opened cdb row bytes kept names rest h stop =
+hold-again command opened cdb row bytes kept names back rest h stop =
     let act : Act = record { command = command; opened = opened; cdb = cdb; row = row; bytes = bytes } in
-    again-3 Act Bool (List At) Event act_fields ActFits act_at (λ flag. field (flag_text flag)) (Always Bool) (field_of flag_of) (λ names. field (names_text names)) AreNames (field_of (listed_of at_of)) act-part flag-part names-part (λ (a : Act) (b : Bool) (c : (List At)). events.Hold a.command a.opened a.cdb a.row a.bytes b c) act kept names rest h.0 tt h.1 stop
+    again-4 Act Bool (List At) Bool Event act_fields ActFits act_at (λ flag. field (flag_text flag)) (Always Bool) (field_of flag_of) (λ names. field (names_text names)) AreNames (field_of (listed_of at_of)) (λ flag. field (flag_text flag)) (Always Bool) (field_of flag_of) act-part flag-part names-part flag-part (λ (a : Act) (b : Bool) (c : (List At)) (d : Bool). events.Hold a.command a.opened a.cdb a.row a.bytes b c d) act kept names back rest h.0 tt h.1 tt stop
 
 shut-again : (command : ℕ) (opened : At) (acted : Bool) (lost : Option At) (rest : List ℕ) → IsEvent (events.Shut command opened acted lost) → ends rest ≡ true
     → shut_at (fields (events.Shut command opened acted lost) ++ rest) ≡ Some (events.Shut command opened acted lost, rest)
@@ -440,10 +440,10 @@ pub event-again : (e : Event) (rest : List ℕ) → IsEvent e → ends rest ≡ 
 unfolding event_at
 event-again (events.Fetch command opened cdb row bytes) rest h stop = fetch-again command opened cdb row bytes rest h stop
 event-again (events.Put command opened cdb row bytes names) rest h stop = put-again command opened cdb row bytes names rest h stop
-event-again (events.Diff command opened cdb row bytes sent dropped) rest h stop = diff-again command opened cdb row bytes sent dropped rest h stop
+event-again (events.Diff command opened cdb row bytes sent dropped back) rest h stop = diff-again command opened cdb row bytes sent dropped back rest h stop
 event-again (events.Take command opened cdb row bytes) rest h stop = take-again command opened cdb row bytes rest h stop
 event-again (events.Fold command opened cdb row bytes names) rest h stop = fold-again command opened cdb row bytes names rest h stop
-event-again (events.Hold command opened cdb row bytes kept names) rest h stop = hold-again command opened cdb row bytes kept names rest h stop
+event-again (events.Hold command opened cdb row bytes kept names back) rest h stop = hold-again command opened cdb row bytes kept names back rest h stop
 event-again (events.Shut command opened acted lost) rest h stop = shut-again command opened acted lost rest h stop
 event-again (events.Gone life call commands) rest h stop = gone-again life call commands rest h stop
 event-again (events.Wiped what call commands) rest h stop = wiped-again what call commands rest h stop

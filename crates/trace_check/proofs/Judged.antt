@@ -35,10 +35,10 @@ target-decided : (s : Setting) (past : List Entry) (stamp i : â„•) (e : Event) â
     Decides (may_target s past stamp i (media s i past) (held s i past) e) (MayTarget s past stamp i e)
 target-decided s past stamp i (Fetch command opened cdb row bytes) = fetch-decided s past stamp i command opened cdb row bytes
 target-decided s past stamp i (Put command opened cdb row bytes names) = put-decided s past stamp i command opened cdb row bytes names
-target-decided s past stamp i (Diff command opened cdb row bytes sent dropped) = diff-decided s past stamp i command opened cdb row bytes sent dropped
+target-decided s past stamp i (Diff command opened cdb row bytes sent dropped back) = diff-decided s past stamp i command opened cdb row bytes sent dropped back
 target-decided s past stamp i (Take command opened cdb row bytes) = take-decided s past stamp i command opened cdb row bytes
 target-decided s past stamp i (Fold command opened cdb row bytes names) = fold-decided s past stamp i command opened cdb row bytes names
-target-decided s past stamp i (Hold command opened cdb row bytes kept names) = hold-decided s past stamp i command opened cdb row bytes kept names
+target-decided s past stamp i (Hold command opened cdb row bytes kept names back) = hold-decided s past stamp i command opened cdb row bytes kept names back
 target-decided s past stamp i (Shut command opened acted lost) = shut-decided s past stamp i command opened acted lost
 target-decided s past stamp i (Gone life call commands) = gone-decided s past i life commands
 target-decided s past stamp i (Wiped what call commands) = wipe-decided s past i what commands

@@ -5,6 +5,7 @@ use Rattle.std.proofs.lemmas.Bool.{false≢true}
 use Rattle.std.proofs.lemmas.Bool.Decides.{Decides-and, Decides-eqb, Decides-ltb, Decides-like}
 use Rattle.std.proofs.lemmas.Slice.Eq.{bytes_eq-Decides}
 use Rattle.blocks_core.specs.Xor.{xor, xor_all}
+use Rattle.stripe_layout.specs.Modes.{sends_delta, hands_delta_back}
 use Rattle.sbc_cdbs.specs.declared.descriptor.Cdb.{Cdb}
 use Rattle.sbc_cdbs.specs.declared.commands.Command.{Command}
 use Rattle.sbc_cdbs.specs.declared.commands.Command.TheVariants as sbc
@@ -15,7 +16,7 @@ use Rattle.array_journal.specs.declared.event.Event.{Event}
 use Rattle.array_journal.specs.declared.event.Event.TheVariants.{Open}
 use Rattle.array_journal.specs.declared.setting.Setting.{Setting}
 use Rattle.array_journal.specs.declared.task.Task.{Task}
-use Rattle.array_journal.specs.Acts.{Act, Fetches, Puts, Diffs, Takes, Holds, has_act, is_act, is_third_party, shuts_command, task_bytes, cdb_of}
+use Rattle.array_journal.specs.Acts.{Act, Fetches, Puts, Diffs, Takes, Holds, has_act, is_act, shuts_command, task_bytes, cdb_of}
 use Rattle.array_journal.specs.Entries.{entry_at, some_at}
 use Rattle.array_journal.specs.Lists.{slice}
 use Rattle.array_journal.specs.Lives.{is_gone}
@@ -37,6 +38,7 @@ fits-decided (sbc.Write dpo fua lba count) = two-fit lba (2 ^ 32) count (2 ^ 16)
 fits-decided (sbc.XdWrite dpo fua disable lba count) = two-fit lba (2 ^ 32) count (2 ^ 16)
 fits-decided (sbc.XpWrite dpo fua lba count) = two-fit lba (2 ^ 32) count (2 ^ 16)
 fits-decided (sbc.XdRead lba count) = two-fit lba (2 ^ 32) count (2 ^ 16)
+fits-decided (sbc.XdWriteRead dpo fua disable lba count) = two-fit lba (2 ^ 32) count (2 ^ 16)
 fits-decided (sbc.ModeSelect pf sp list) = Decides-ltb list (2 ^ 16)
 fits-decided (sbc.ModeSense dbd pc page allocation) =
     Decides-like _ (λ p. (p.0.0, p.0.1, p.1)) (λ p. ((p.0, p.1), p.2))
@@ -152,19 +154,21 @@ put-decided s past stamp i c opened cdb row bytes list =
     (bytes_eq-Decides bytes (xor task.bytes (xor_all (length bytes) (map (bytes_named past) list))))))
     (λ task m. record { opening = m.act.opening; in_book = m.act.in_book })
 
-pub diff-decided : (s : Setting) (past : List Entry) (stamp i c : ℕ) (opened : At) (cdb : Cdb) (row : ℕ) (bytes : List ℕ) (sent dropped : Bool) →
-    Decides (of_opened past stamp c opened (j.may_diff s past i c opened cdb row bytes sent dropped))
-    (SomeTask (λ task. MayDiff s past stamp i c opened cdb row bytes sent dropped task))
-diff-decided s past stamp i c opened cdb row bytes sent dropped =
-    of_opened-decided past stamp c opened _ (λ task. MayDiff s past stamp i c opened cdb row bytes sent dropped task)
+pub diff-decided : (s : Setting) (past : List Entry) (stamp i c : ℕ) (opened : At) (cdb : Cdb) (row : ℕ) (bytes : List ℕ) (sent dropped back : Bool) →
+    Decides (of_opened past stamp c opened (j.may_diff s past i c opened cdb row bytes sent dropped back))
+    (SomeTask (λ task. MayDiff s past stamp i c opened cdb row bytes sent dropped back task))
+diff-decided s past stamp i c opened cdb row bytes sent dropped back =
+    of_opened-decided past stamp c opened _ (λ task. MayDiff s past stamp i c opened cdb row bytes sent dropped back task)
     (λ task o.
-    Decides-like (j.may_diff s past i c opened cdb row bytes sent dropped task)
-    (λ p. record { act = p.0.0.0; written = p.0.0.1; sent_by_mode = p.0.1; dropped_when_due = p.1 })
-    (λ (m : MayDiff s past stamp i c opened cdb row bytes sent dropped task). (((m.act, m.written), m.sent_by_mode), m.dropped_when_due))
+    Decides-like (j.may_diff s past i c opened cdb row bytes sent dropped back task)
+    (λ p. record { act = p.0.0.0.0; written = p.0.0.0.1; sent_by_mode = p.0.0.1; back_by_mode = p.0.1; dropped_when_due = p.1 })
+    (λ (m : MayDiff s past stamp i c opened cdb row bytes sent dropped back task). ((((m.act, m.written), m.sent_by_mode), m.back_by_mode), m.dropped_when_due))
+    (Decides-and _ _
     (Decides-and _ _
     (Decides-and _ _
     (Decides-and _ _ (act-decided s past stamp i c opened cdb row (length bytes) 0 task Diffs o) (bytes_eq-Decides bytes task.bytes))
-    (Decides-bool sent (is_third_party s.mode)))
+    (Decides-bool sent (sends_delta s.mode)))
+    (Decides-bool back (hands_delta_back s.mode)))
     (Decides-bool dropped (sent && nat_lt 0 (drops i past)))))
     (λ task m. record { opening = m.act.opening; in_book = m.act.in_book })
 
@@ -181,18 +185,20 @@ take-decided s past stamp i c opened cdb row bytes =
     (Decides-found bytes (rows_held s.geometry.block c row (length bytes) (held s i past)))))
     (λ task m. record { opening = m.act.opening; in_book = m.act.in_book })
 
-pub hold-decided : (s : Setting) (past : List Entry) (stamp i c : ℕ) (opened : At) (cdb : Cdb) (row : ℕ) (bytes : List ℕ) (kept : Bool) (list : List At) →
-    Decides (of_opened past stamp c opened (j.may_hold s past stamp i c opened cdb row bytes kept list (media s i past)))
-    (SomeTask (λ task. MayHold s past stamp i c opened cdb row bytes kept list task))
-hold-decided s past stamp i c opened cdb row bytes kept list =
-    of_opened-decided past stamp c opened _ (λ task. MayHold s past stamp i c opened cdb row bytes kept list task)
+pub hold-decided : (s : Setting) (past : List Entry) (stamp i c : ℕ) (opened : At) (cdb : Cdb) (row : ℕ) (bytes : List ℕ) (kept : Bool) (list : List At) (back : Bool) →
+    Decides (of_opened past stamp c opened (j.may_hold s past stamp i c opened cdb row bytes kept list back (media s i past)))
+    (SomeTask (λ task. MayHold s past stamp i c opened cdb row bytes kept list back task))
+hold-decided s past stamp i c opened cdb row bytes kept list back =
+    of_opened-decided past stamp c opened _ (λ task. MayHold s past stamp i c opened cdb row bytes kept list back task)
     (λ task o.
-    Decides-like (j.may_hold s past stamp i c opened cdb row bytes kept list (media s i past) task)
-    (λ p. record { act = p.0.0.0; kept_here = p.0.0.1; fetched = p.0.1; made = p.1 })
-    (λ (m : MayHold s past stamp i c opened cdb row bytes kept list task). (((m.act, m.kept_here), m.fetched), m.made))
+    Decides-like (j.may_hold s past stamp i c opened cdb row bytes kept list back (media s i past) task)
+    (λ p. record { act = p.0.0.0.0; kept_here = p.0.0.0.1; not_handed = p.0.0.1; fetched = p.0.1; made = p.1 })
+    (λ (m : MayHold s past stamp i c opened cdb row bytes kept list back task). ((((m.act, m.kept_here), m.not_handed), m.fetched), m.made))
+    (Decides-and _ _
     (Decides-and _ _
     (Decides-and _ _
     (Decides-and _ _ (act-decided s past stamp i c opened cdb row (length bytes) (length list) task Holds o) (Decides-true kept))
+    (Decides-false back))
     (names_at-decided past stamp (fetched_targets s task) (is_act Fetches c) list))
     (bytes_eq-Decides bytes (xor (slice (media s i past) (row * s.geometry.block) (length bytes)) (xor_all (length bytes) (map (bytes_named past) list))))))
     (λ task m. record { opening = m.act.opening; in_book = m.act.in_book })

@@ -14,11 +14,11 @@ use Rattle.array_journal.specs.declared.event.What.{What}
 use Rattle.array_journal.specs.declared.event.What.TheVariants.{Buffers, Request}
 use Rattle.array_journal.specs.declared.setting.Setting.{Setting}
 use Rattle.array_journal.specs.declared.task.Task.{Task}
-use Rattle.array_journal.specs.Acts.{Fetches, Folds, is_act, is_target, is_third_party, shuts_command, changes_medium}
+use Rattle.array_journal.specs.Acts.{Fetches, Folds, is_act, is_target, shuts_command, changes_medium}
 use Rattle.array_journal.specs.Deltas.{delta_at}
 use Rattle.array_journal.specs.Entries.{entry_at, some_at, count_before}
 use Rattle.array_journal.specs.Lives.{loss_of, life_of, is_swap_of}
-use Rattle.array_journal.specs.May.{SomeTask, MayFold, MayShut, MayGone, MayWipe, MayFresh, IsFoldSource, is_read_task}
+use Rattle.array_journal.specs.May.{SomeTask, MayFold, MayShut, MayGone, MayWipe, MayFresh, IsFoldSource, is_read_task, is_under_way}
 use Rattle.array_journal.specs.Media.{held, owners_of}
 use Rattle.trace_check.specs.JudgingActs as j
 use Rattle.trace_check.specs.JudgingActs.{of_opened, same_found, is_source, same_place, is_swap_for}
@@ -29,11 +29,10 @@ source-decided : (s : Setting) (past : List Entry) (c : ℕ) (task : Task) (name
     Decides (is_source s past c task name bytes o) (IsFoldSource s past c task name bytes o)
 source-decided s past c task name bytes (Some (Take command opened cdb row taken)) =
     Decides-and (command == c) (bytes_eq taken bytes) (Decides-eqb command c) (bytes_eq-Decides taken bytes)
-source-decided s past c task name bytes (Some (Diff command opened cdb row written sent dropped)) =
-    Decides-like (is_source s past c task name bytes (Some (Diff command opened cdb row written sent dropped)))
-    (λ p. (p.0.0.0.0, p.0.0.0.1, p.0.0.1, p.0.1, p.1)) (λ p. ((((p.0, p.1), p.2), p.3), p.4))
-    (Decides-and _ _
-    (Decides-and _ _ (Decides-and _ _ (Decides-and _ _ (Decides-true (is_third_party s.mode)) (Decides-eqb command c)) (Decides-true sent)) (Decides-false dropped))
+source-decided s past c task name bytes (Some (Diff command opened cdb row written sent dropped back)) =
+    Decides-like (is_source s past c task name bytes (Some (Diff command opened cdb row written sent dropped back)))
+    (λ p. (p.0.0, p.0.1, p.1)) (λ p. ((p.0, p.1), p.2))
+    (Decides-and _ _ (Decides-and _ _ (Decides-true (is_under_way s.mode sent dropped back)) (Decides-eqb command c))
     (Decides-found bytes (delta_at s task.target name past)))
 source-decided s past c task name bytes (Some _) = Decides-nothing
 source-decided s past c task name bytes None = Decides-nothing

@@ -9,7 +9,7 @@ use Rattle.array_journal.specs.declared.entry.Entry.{Entry}
 use Rattle.array_journal.specs.declared.event.Event.{Event}
 use Rattle.array_journal.specs.declared.setting.Setting.{Setting}
 use Rattle.array_journal.specs.declared.task.Task.{Task}
-use Rattle.array_journal.specs.Acts.{Act, Folds, has_act, is_act, acts_at, is_third_party}
+use Rattle.array_journal.specs.Acts.{Act, Folds, has_act, is_act, acts_at}
 use Rattle.array_journal.specs.Entries.{at_lt, entry_at}
 use Rattle.array_journal.specs.Lists.{numbers}
 use Rattle.array_journal.specs.May.{passes, Names, NamesAt, Rise, EachOwn, AllNamed, is_own_act, is_named}
@@ -82,7 +82,7 @@ all-decided s past c task act list = (
   λ h i due.
       due-named (has_act s act task i) (is_named past c act i list)
       (all-at (is_named_where_due s past c task act list) 0 s.geometry.targets i (omega arith)
-      (let lt = lt-true i s.geometry.targets (and_left (nat_lt i s.geometry.targets) (acts_at (is_third_party s.mode) act task.kind task i) due) in omega (arith, lt)) h)
+      (let lt = lt-true i s.geometry.targets (and_left (nat_lt i s.geometry.targets) (acts_at s.mode act task.kind task i) due) in omega (arith, lt)) h)
       due,
   λ each. all-each (is_named_where_due s past c task act list) 0 s.geometry.targets
       (λ i. named-due (has_act s act task i) (is_named past c act i list) (each i)),

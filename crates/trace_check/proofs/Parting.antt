@@ -7,7 +7,7 @@ use Rattle.std.proofs.lemmas.Bool.{and_parts, and_from, ne_eqb, ltb-true}
 use Rattle.std.proofs.lemmas.Bool.Decides.{nat_tests}
 use Rattle.std.proofs.lemmas.List.{take_at, drop_at}
 use Rattle.stripe_layout.specs.declared.mode.Mode.{Mode}
-use Rattle.stripe_layout.specs.declared.mode.Mode.TheVariants.{Supervised, ThirdParty}
+use Rattle.stripe_layout.specs.declared.mode.Mode.TheVariants.{Supervised, ThirdParty, Readback}
 use Rattle.array_journal.specs.declared.entry.Entry.{Entry}
 use Rattle.array_journal.specs.declared.setting.Setting.{Setting}
 use Rattle.array_journal.specs.declared.task.Task.{Task}
@@ -178,6 +178,7 @@ mode-passes mode = line-passes marks.Output (mode_text mode) (mode_rule.clean mo
     unmarked : (m : Mode) (rest : List ℕ) → marked marks.Output (line (mode_text m) ++ rest) ≡ false
     unmarked Supervised rest = refl
     unmarked ThirdParty rest = refl
+    unmarked Readback rest = refl
 
 call-passes : (s : Script) (call : Call) → s.hosts ≤ 26 → s.geometry.targets ≤ 16 → IsCall s call → Passes marks.Output (line (call_text call))
 call-passes s call hosts targets h =

@@ -162,10 +162,10 @@ told-refusal script call piece past why e = subst IsToldBegin e (told-call scrip
 told-event : (script : Script) (event : Event) (past : List Entry) → IsDecided script event past → IsTold event
 told-event script (Fetch command opened cdb row bytes) past d = tt
 told-event script (Put command opened cdb row bytes names) past d = tt
-told-event script (Diff command opened cdb row bytes sent dropped) past d = tt
+told-event script (Diff command opened cdb row bytes sent dropped back) past d = tt
 told-event script (Take command opened cdb row bytes) past d = tt
 told-event script (Fold command opened cdb row bytes names) past d = tt
-told-event script (Hold command opened cdb row bytes kept names) past d = tt
+told-event script (Hold command opened cdb row bytes kept names back) past d = tt
 told-event script (Shut command opened acted lost) past d = tt
 told-event script (Gone life call commands) past d = tt
 told-event script (Wiped what call commands) past d = tt

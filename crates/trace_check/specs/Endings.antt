@@ -1,6 +1,6 @@
 -- How a check ends, and why.
-use Rattle.std.specs.Prelude.{ℕ, ◌≡◌, ◌⊎◌, ◌≤◌, ◌==◌, if◌then◌else◌, List, [], ◌∷◌, length, codes, map, Option, Some, None, IfSome, String, string_bytes}
-use Rattle.std.specs.Io.KnownBytes.{Appends, IsAtEnd}
+use Rattle.std.specs.Prelude.{ℕ, ◌≡◌, ◌⊎◌, ◌+◌, ◌==◌, if◌then◌else◌, List, [], ◌∷◌, length, drop, codes, map, Option, Some, None, IfSome, String, string_bytes}
+use Rattle.std.specs.Io.KnownBytes.{Appends}
 use Rattle.std.specs.declared.alloc.Global.{Global}
 use Rattle.array_journal.specs.declared.entry.Entry.{Entry}
 use Rattle.host_scripts.specs.declared.script.Script.{Script}
@@ -10,7 +10,7 @@ use Rattle.trace_check.specs.declared.checking.findings.Finding.{Finding}
 use Rattle.trace_check.specs.declared.checking.findings.Finding.TheVariants as findings
 use Rattle.trace_check.specs.declared.checking.findings.Stop.{Stop}
 use Rattle.trace_check.specs.declared.checking.findings.Stop.TheVariants.{Usage, ReadFault, Found, Memory}
-use Rattle.trace_check.specs.Findings.{IsAccepted, IsSound, IsFound}
+use Rattle.trace_check.specs.Findings.{IsSound, IsFound}
 use Rattle.trace_check.specs.Notes.{finding_line, accepted_line}
 
 -- a number is one of these
@@ -98,9 +98,9 @@ AfterReading Said ReadFault = Unit {0}
 AfterReading Said (Found finding note) = Said
 AfterReading Said Memory = Unit {0}
 
--- nothing is left of an input that isn't too long
-abbrev pub IsReadWhole : Option (List ℕ) → Option (List ℕ) → Type 0
-IsReadWhole input left = IfSome input (λ bytes. length bytes ≤ input_limit → IsAtEnd left)
+-- of an input all is taken up to one byte past the limit, and nothing behind it
+abbrev pub IsInputTaken : Option (List ℕ) → Option (List ℕ) → Type 0
+IsInputTaken input left = IfSome input (λ bytes. left ≡ Some (drop (input_limit + 1) bytes))
 
 -- the words ask for a check, and the text says how many entries the run has
 abbrev pub IsTold : List (List ℕ) → Option (List ℕ) → List ℕ → Type 0
@@ -113,10 +113,11 @@ IsDone words input before after = (text : List ℕ) × (IsTold words input text 
 abbrev pub IsCutShort : List (List ℕ) → Option (List ℕ) → Option (List ℕ) → Option (List ℕ) → Type 0
 IsCutShort words input before after = (text : List ℕ) × (IsTold words input text × AppendsPrefix before after text)
 
--- notes have gained a beginning of the line that goes with what stops a check
-abbrev pub IsNoteCutShort : List (List ℕ) → Option (List ℕ) → ℕ → ℕ → Option (List ℕ) → Option (List ℕ) → Type 0
-IsNoteCutShort words input before after old new =
-    (stop : Stop) × (StopsFor words input before after stop × AppendsPrefix old new (note_of stop))
+-- notes have gained a beginning of the line that goes with what stops a check; where this was found in the input, the
+-- input is taken
+abbrev pub IsNoteCutShort : List (List ℕ) → Option (List ℕ) → Option (List ℕ) → ℕ → ℕ → Option (List ℕ) → Option (List ℕ) → Type 0
+IsNoteCutShort words input left before after old new =
+    (stop : Stop) × (StopsFor words input before after stop × AfterReading (IsInputTaken input left) stop × AppendsPrefix old new (note_of stop))
 
 -- notes have gained the line of a finding with this status
 abbrev pub IsNoted : List (List ℕ) → Option (List ℕ) → ℕ → Option (List ℕ) → Option (List ℕ) → Type 0

@@ -1,13 +1,12 @@
 -- Which inputs are accepted, and what the others are found to be.
 use Rattle.std.specs.Prelude.{ℕ, ◌≡◌, ◌≤◌, ◌<◌, ◌+◌, ◌==◌, if◌then◌else◌, List, [], ◌∷◌, ◌++◌, length, Option, Some, None}
 use Rattle.std.specs.List.{count_by}
+use Rattle.array_journal.specs.Guarded.{IsGuarded}
 use Rattle.array_journal.specs.declared.entry.Entry.{Entry}
 use Rattle.array_journal.specs.declared.setting.Setting.{Setting}
 use Rattle.array_journal.specs.Run.{Run, ConservedThroughout, IsLegal}
 use Rattle.host_scripts.specs.declared.script.Script.{Script}
-use Rattle.host_scripts.specs.declared.script.Cause.{Cause}
 use Rattle.host_scripts.specs.declared.script.Cause.TheVariants.{Form}
-use Rattle.host_scripts.specs.declared.script.Limit.{Limit}
 use Rattle.host_scripts.specs.Scripts as scripts
 use Rattle.host_scripts.specs.Scripts.{spelling, IsScript}
 use Rattle.host_scripts.specs.Refusals.{IsRefusal}
@@ -52,12 +51,14 @@ pub record IsAccepted (input : List ℕ) (script : Script) (journal : List Entry
   pub asked : IsAsked script journal
 
 -- The bytes of such an input; nothing is lost after any entry of the journal, and what hosts were told is what one plain
--- list of sectors says.
+-- list of sectors says; commands that run alone are undisturbed, no act follows the end of its command, and absent units
+-- are those missing or gone.
 pub record IsSound (input : List ℕ) (script : Script) (journal : List Entry) : Type 0 where
   pub accepted : IsAccepted input script journal
   pub whole : input ≡ spelling script ++ (output_line ++ (report_of script journal ++ trace_of journal))
   pub conserved : ConservedThroughout (setting_of script) journal
   pub legal : IsLegal (setting_of script) journal
+  pub guarded : IsGuarded journal
 
 -- ---- what the others are found to be
 

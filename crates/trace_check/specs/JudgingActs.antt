@@ -3,6 +3,7 @@
 use Rattle.std.specs.Prelude.{◌==◌, ◌&&◌, ◌+◌, ◌*◌, ◌^◌, nat_lt, nat_le, not, ℕ, Bool, true, false, List, [], ◌∷◌, length, map, Option, Some, None}
 use Rattle.std.specs.Str.{bytes_eq}
 use Rattle.blocks_core.specs.Xor.{xor, xor_all}
+use Rattle.stripe_layout.specs.Modes.{sends_delta, hands_delta_back}
 use Rattle.sbc_cdbs.specs.declared.descriptor.Cdb.{Cdb}
 use Rattle.sbc_cdbs.specs.declared.commands.Command.{Command}
 use Rattle.sbc_cdbs.specs.declared.commands.Command.TheVariants as sbc
@@ -15,12 +16,12 @@ use Rattle.array_journal.specs.declared.event.What.{What}
 use Rattle.array_journal.specs.declared.event.What.TheVariants.{Buffers, Request}
 use Rattle.array_journal.specs.declared.setting.Setting.{Setting}
 use Rattle.array_journal.specs.declared.task.Task.{Task}
-use Rattle.array_journal.specs.Acts.{Act, Fetches, Puts, Diffs, Takes, Folds, Holds, has_act, is_act, is_target, is_third_party, shuts_command, changes_medium, task_bytes, cdb_of}
+use Rattle.array_journal.specs.Acts.{Act, Fetches, Puts, Diffs, Takes, Folds, Holds, has_act, is_act, is_target, shuts_command, changes_medium, task_bytes, cdb_of}
 use Rattle.array_journal.specs.Deltas.{delta_at}
 use Rattle.array_journal.specs.Entries.{entry_at, some_at, count_before, same_at}
 use Rattle.array_journal.specs.Lists.{slice}
 use Rattle.array_journal.specs.Lives.{is_gone, loss_of, life_of, is_swap_of}
-use Rattle.array_journal.specs.May.{freshes_after, bytes_named, is_read_task, fetched_targets}
+use Rattle.array_journal.specs.May.{freshes_after, bytes_named, is_read_task, is_under_way, fetched_targets}
 use Rattle.array_journal.specs.Media.{HeldBlocks, rows_held, drops, owners_of}
 use Rattle.trace_check.specs.Judging.{names_at, opened_task}
 use Rattle.trace_check.specs.JudgingEnds.{is_empty, passes_task}
@@ -32,6 +33,7 @@ fits (sbc.Write dpo fua lba count) = nat_lt lba (2 ^ 32) && nat_lt count (2 ^ 16
 fits (sbc.XdWrite dpo fua disable lba count) = nat_lt lba (2 ^ 32) && nat_lt count (2 ^ 16)
 fits (sbc.XpWrite dpo fua lba count) = nat_lt lba (2 ^ 32) && nat_lt count (2 ^ 16)
 fits (sbc.XdRead lba count) = nat_lt lba (2 ^ 32) && nat_lt count (2 ^ 16)
+fits (sbc.XdWriteRead dpo fua disable lba count) = nat_lt lba (2 ^ 32) && nat_lt count (2 ^ 16)
 fits (sbc.ModeSelect pf sp list) = nat_lt list (2 ^ 16)
 fits (sbc.ModeSense dbd pc page allocation) = nat_le pc 3 && nat_le page 63 && nat_lt allocation (2 ^ 16)
 fits (sbc.XdWriteExtended dpo fua disable lba second count address) =
@@ -83,10 +85,11 @@ may_put s past stamp i c opened cdb row bytes list task =
     && names_at past stamp (fetched_targets s task) (is_act Fetches c) list
     && bytes_eq bytes (xor task.bytes (xor_all (length bytes) (map (bytes_named past) list)))
 
-abbrev pub may_diff : Setting → List Entry → ℕ → ℕ → At → Cdb → ℕ → List ℕ → Bool → Bool → Task → Bool
-may_diff s past i c opened cdb row bytes sent dropped task =
+abbrev pub may_diff : Setting → List Entry → ℕ → ℕ → At → Cdb → ℕ → List ℕ → Bool → Bool → Bool → Task → Bool
+may_diff s past i c opened cdb row bytes sent dropped back task =
     may_act s past i c opened cdb row (length bytes) 0 task Diffs && bytes_eq bytes task.bytes
-    && same_bool sent (is_third_party s.mode) && same_bool dropped (sent && nat_lt 0 (drops i past))
+    && same_bool sent (sends_delta s.mode) && same_bool back (hands_delta_back s.mode)
+    && same_bool dropped (sent && nat_lt 0 (drops i past))
 
 abbrev pub may_take : Setting → List Entry → ℕ → ℕ → At → Cdb → ℕ → List ℕ → List HeldBlocks → Task → Bool
 may_take s past i c opened cdb row bytes holds task =
@@ -96,8 +99,8 @@ may_take s past i c opened cdb row bytes holds task =
 -- what a fold may rest on
 abbrev pub is_source : Setting → List Entry → ℕ → Task → At → List ℕ → Option Event → Bool
 is_source s past c task name bytes (Some (Take command opened cdb row taken)) = (command == c) && bytes_eq taken bytes
-is_source s past c task name bytes (Some (Diff command opened cdb row written sent dropped)) =
-    is_third_party s.mode && (command == c) && sent && not dropped && same_found bytes (delta_at s task.target name past)
+is_source s past c task name bytes (Some (Diff command opened cdb row written sent dropped back)) =
+    is_under_way s.mode sent dropped back && (command == c) && same_found bytes (delta_at s task.target name past)
 is_source s past c task name bytes _ = false
 
 -- there is one name, of what the fold may rest on
@@ -111,9 +114,9 @@ abbrev pub may_fold : Setting → List Entry → ℕ → ℕ → ℕ → At → 
 may_fold s past stamp i c opened cdb row bytes list task =
     may_act s past i c opened cdb row (length bytes) 0 task Folds && one_source s past stamp c task bytes list
 
-abbrev pub may_hold : Setting → List Entry → ℕ → ℕ → ℕ → At → Cdb → ℕ → List ℕ → Bool → List At → List ℕ → Task → Bool
-may_hold s past stamp i c opened cdb row bytes kept list medium task =
-    may_act s past i c opened cdb row (length bytes) (length list) task Holds && kept
+abbrev pub may_hold : Setting → List Entry → ℕ → ℕ → ℕ → At → Cdb → ℕ → List ℕ → Bool → List At → Bool → List ℕ → Task → Bool
+may_hold s past stamp i c opened cdb row bytes kept list back medium task =
+    may_act s past i c opened cdb row (length bytes) (length list) task Holds && kept && not back
     && names_at past stamp (fetched_targets s task) (is_act Fetches c) list
     && bytes_eq bytes (xor (slice medium (row * s.geometry.block) (length bytes)) (xor_all (length bytes) (map (bytes_named past) list)))
 

@@ -25,14 +25,14 @@ may_target s past stamp i medium holds (Fetch command opened cdb row bytes) =
     of_opened past stamp command opened (may_fetch s past stamp i command opened cdb row bytes medium)
 may_target s past stamp i medium holds (Put command opened cdb row bytes names) =
     of_opened past stamp command opened (may_put s past stamp i command opened cdb row bytes names)
-may_target s past stamp i medium holds (Diff command opened cdb row bytes sent dropped) =
-    of_opened past stamp command opened (may_diff s past i command opened cdb row bytes sent dropped)
+may_target s past stamp i medium holds (Diff command opened cdb row bytes sent dropped back) =
+    of_opened past stamp command opened (may_diff s past i command opened cdb row bytes sent dropped back)
 may_target s past stamp i medium holds (Take command opened cdb row bytes) =
     of_opened past stamp command opened (may_take s past i command opened cdb row bytes holds)
 may_target s past stamp i medium holds (Fold command opened cdb row bytes names) =
     of_opened past stamp command opened (may_fold s past stamp i command opened cdb row bytes names)
-may_target s past stamp i medium holds (Hold command opened cdb row bytes kept names) =
-    of_opened past stamp command opened (may_hold s past stamp i command opened cdb row bytes kept names medium)
+may_target s past stamp i medium holds (Hold command opened cdb row bytes kept names back) =
+    of_opened past stamp command opened (may_hold s past stamp i command opened cdb row bytes kept names back medium)
 may_target s past stamp i medium holds (Shut command opened acted lost) =
     of_opened past stamp command opened (may_shut s past i command acted lost)
 may_target s past stamp i medium holds (Gone life call commands) = may_lose past i life commands holds
@@ -52,8 +52,8 @@ may_follow s past e = stamps_below e.lock e.stamp past && may_at s past e.stamp 
 abbrev pub is_act_event : Event → Bool
 is_act_event (Fetch command opened cdb row bytes) = true
 is_act_event (Put command opened cdb row bytes names) = true
-is_act_event (Diff command opened cdb row bytes sent dropped) = true
+is_act_event (Diff command opened cdb row bytes sent dropped back) = true
 is_act_event (Take command opened cdb row bytes) = true
 is_act_event (Fold command opened cdb row bytes names) = true
-is_act_event (Hold command opened cdb row bytes kept names) = true
+is_act_event (Hold command opened cdb row bytes kept names back) = true
 is_act_event _ = false

@@ -74,7 +74,8 @@ diff_at line = do
   act ← act_at line
   sent ← field_of flag_of act.1
   dropped ← field_of flag_of sent.1
-  Some (events.Diff act.0.command act.0.opened act.0.cdb act.0.row act.0.bytes sent.0 dropped.0, dropped.1)
+  back ← field_of flag_of dropped.1
+  Some (events.Diff act.0.command act.0.opened act.0.cdb act.0.row act.0.bytes sent.0 dropped.0 back.0, back.1)
 
 unfoldable pub take_at : List ℕ → Option (Event × List ℕ)
 take_at line = do
@@ -92,7 +93,8 @@ hold_at line = do
   act ← act_at line
   kept ← field_of flag_of act.1
   names ← field_of (listed_of at_of) kept.1
-  Some (events.Hold act.0.command act.0.opened act.0.cdb act.0.row act.0.bytes kept.0 names.0, names.1)
+  back ← field_of flag_of names.1
+  Some (events.Hold act.0.command act.0.opened act.0.cdb act.0.row act.0.bytes kept.0 names.0 back.0, back.1)
 
 unfoldable pub shut_at : List ℕ → Option (Event × List ℕ)
 shut_at line = do

@@ -1,5 +1,5 @@
 -- The lines that say what an input is found to be.
-use Rattle.std.specs.Prelude.{ℕ, List, [], ◌∷◌, ◌++◌, codes}
+use Rattle.std.specs.Prelude.{ℕ, List, [], ◌∷◌, codes}
 use Rattle.host_scripts.specs.declared.script.Cause.{Cause}
 use Rattle.host_scripts.specs.declared.script.Cause.TheVariants as causes
 use Rattle.host_scripts.specs.declared.script.Limit.{Limit}

@@ -79,10 +79,10 @@ IsAct command opened cdb row bytes = (command < 2 ^ 32) × IsAt opened × IsCdb 
 abbrev pub IsEvent : Event → Type 0
 IsEvent (Fetch command opened cdb row bytes) = IsAct command opened cdb row bytes
 IsEvent (Put command opened cdb row bytes names) = IsAct command opened cdb row bytes × AreNames names
-IsEvent (Diff command opened cdb row bytes sent dropped) = IsAct command opened cdb row bytes
+IsEvent (Diff command opened cdb row bytes sent dropped back) = IsAct command opened cdb row bytes
 IsEvent (Take command opened cdb row bytes) = IsAct command opened cdb row bytes
 IsEvent (Fold command opened cdb row bytes names) = IsAct command opened cdb row bytes × AreNames names
-IsEvent (Hold command opened cdb row bytes kept names) = IsAct command opened cdb row bytes × AreNames names
+IsEvent (Hold command opened cdb row bytes kept names back) = IsAct command opened cdb row bytes × AreNames names
 IsEvent (Shut command opened acted lost) = (command < 2 ^ 32) × IsAt opened × IsCause lost
 IsEvent (Gone life call commands) = (life < 2 ^ 32) × (call < 2 ^ 32) × AreOwners commands
 IsEvent (Wiped what call commands) = (call < 2 ^ 32) × AreOwners commands

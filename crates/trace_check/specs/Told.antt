@@ -1,6 +1,6 @@
 -- Journals of which a trace tells all: no number of a journal in memory is out of its range, but of a sense
 -- a line tells its key, its codes and a byte of the CDB alone.
-use Rattle.std.specs.Prelude.{ℕ, ◌≡◌, true, Option, Some, None}
+use Rattle.std.specs.Prelude.{◌≡◌, true, Option, Some, None}
 use Rattle.sense_data.specs.declared.senses.Pointer.{Pointer}
 use Rattle.sense_data.specs.declared.senses.Sense.{Sense}
 use Rattle.array_journal.specs.declared.entry.Entry.{Entry}
@@ -35,10 +35,10 @@ IsToldWhy NotLost = Unit {0}
 abbrev pub IsTold : Event → Type 0
 IsTold (Fetch command opened cdb row bytes) = Unit {0}
 IsTold (Put command opened cdb row bytes names) = Unit {0}
-IsTold (Diff command opened cdb row bytes sent dropped) = Unit {0}
+IsTold (Diff command opened cdb row bytes sent dropped back) = Unit {0}
 IsTold (Take command opened cdb row bytes) = Unit {0}
 IsTold (Fold command opened cdb row bytes names) = Unit {0}
-IsTold (Hold command opened cdb row bytes kept names) = Unit {0}
+IsTold (Hold command opened cdb row bytes kept names back) = Unit {0}
 IsTold (Shut command opened acted lost) = Unit {0}
 IsTold (Gone life call commands) = Unit {0}
 IsTold (Wiped what call commands) = Unit {0}

@@ -66,6 +66,7 @@ fn diff_fields(alloc: Global, line: &[u8]) -> Result<(Event, &[u8]), LineFault>
     let (act, rest) = act_fields(alloc, line)?;
     let (sent, rest) = flag_field(rest)?;
     let (dropped, rest) = flag_field(rest)?;
+    let (back, rest) = flag_field(rest)?;
     let Act {
         command,
         opened,
@@ -81,6 +82,7 @@ fn diff_fields(alloc: Global, line: &[u8]) -> Result<(Event, &[u8]), LineFault>
         bytes,
         sent,
         dropped,
+        back,
     };
     Ok((event, rest))
 }
@@ -138,6 +140,7 @@ fn hold_fields(alloc: Global, line: &[u8]) -> Result<(Event, &[u8]), LineFault>
     let (act, rest) = act_fields(alloc, line)?;
     let (kept, rest) = flag_field(rest)?;
     let (names, rest) = names_field(alloc, rest)?;
+    let (back, rest) = flag_field(rest)?;
     let Act {
         command,
         opened,
@@ -153,6 +156,7 @@ fn hold_fields(alloc: Global, line: &[u8]) -> Result<(Event, &[u8]), LineFault>
         bytes,
         kept,
         names,
+        back,
     };
     Ok((event, rest))
 }

@@ -24,10 +24,3 @@ pub use judging::run_fault;
 pub use laws::{asked_journals_are_told, printed_runs_are_accepted};
 pub use ranges::printed_is_read;
 pub use reading::read_trace;
-
-#[cfg(test)]
-mod asked_tests;
-#[cfg(test)]
-mod check_tests;
-#[cfg(test)]
-mod tests;

@@ -145,6 +145,7 @@ fn event_in_range(event: &Event)
             bytes,
             sent: _,
             dropped: _,
+            back: _,
         } => act_in_range(*command, opened, cdb, *row, bytes),
         Event::Take {
             command,
@@ -172,6 +173,7 @@ fn event_in_range(event: &Event)
             bytes,
             kept: _,
             names,
+            back: _,
         } => {
             act_in_range(*command, opened, cdb, *row, bytes);
             names_in_range(names.as_slice())

@@ -7,7 +7,7 @@ ghost use Rattle.host_scripts.specs.declared.script.Script.{Script};
 ghost use Rattle.outer_io.specs.Outside.{HasRisen, AppendsPrefix};
 ghost use Rattle.trace_check.specs.declared.checking.findings.Finding.{Finding};
 ghost use Rattle.trace_check.specs.Findings.{IsAccepted, IsFound};
-ghost use Rattle.trace_check.specs.Endings.{texts, AsksCheck, IsOneOf, IsDone, IsCutShort, IsNoteCutShort, IsNoted, IsReadWhole, finding_status, status_of, note_of, noted_for};
+ghost use Rattle.trace_check.specs.Endings.{texts, AsksCheck, IsOneOf, IsDone, IsCutShort, IsNoteCutShort, IsNoted, IsInputTaken, finding_status, status_of, note_of, noted_for};
 ghost use Rattle.trace_check.specs.Notes.{accepted_line, finding_line};
 
 use crate::checking::findings::Stop;
@@ -48,9 +48,10 @@ pub fn check<S: Source, K: Sink, N: Sink>(
     ensures write_fault { result ≡ 4 →
         (HasRisen (K.faults out.old) (K.faults out.new)
         × IsCutShort (texts words.now) (S.left source.old) (K.written out.old) (K.written out.new)
+        × IsInputTaken (S.left source.old) (S.left source.new)
         × (N.written notes.new ≡ N.written notes.old))
         ⊎ (HasRisen (N.faults notes.old) (N.faults notes.new)
-        × IsNoteCutShort (texts words.now) (S.left source.old) (S.faults source.old) (S.faults source.new) (N.written notes.old) (N.written notes.new)
+        × IsNoteCutShort (texts words.now) (S.left source.old) (S.left source.new) (S.faults source.old) (S.faults source.new) (N.written notes.old) (N.written notes.new)
         × (K.written out.new ≡ K.written out.old)) }
     ensures no_memory { result ≡ 5 → AsksCheck (texts words.now) }
     ensures usage { result ≡ 64 → AsksCheck (texts words.now) → ⊥ }
@@ -75,9 +76,10 @@ pub fn check<S: Source, K: Sink, N: Sink>(
         ¬ HasRisen (N.faults notes.old) (N.faults notes.new) →
         IsOneOf (0 ∷ 5 ∷ []) result) }
 
-    // What is read: all that there is, where a check is asked for and the input isn't too long; and else nothing.
-    ensures read_whole { AsksCheck (texts words.now) → IsOneOf (0 ∷ 1 ∷ 2 ∷ 7 ∷ []) result →
-        IsReadWhole (S.left source.old) (S.left source.new) }
+    // What is taken of the source, also where the write of what was found failed: all, or one byte more than the
+    // limit. Where no check is asked for it is left alone.
+    ensures taken { AsksCheck (texts words.now) → IsOneOf (0 ∷ 1 ∷ 2 ∷ 7 ∷ []) result →
+        IsInputTaken (S.left source.old) (S.left source.new) }
     ensures unread { (AsksCheck (texts words.now) → ⊥) →
         (S.left source.new ≡ S.left source.old) × (S.faults source.new ≡ S.faults source.old) }
 

@@ -11,7 +11,7 @@ ghost use Rattle.outer_io.specs.Outside.{input_limit};
 ghost use Rattle.stripe_check.specs.Asked.{IsAsked};
 ghost use Rattle.stripe_check.specs.Reports.{setting_of, report_of};
 ghost use Rattle.trace_check.specs.Findings.{IsFound, IsFoundIn, IsFoundOf, IsRunIn, IsScriptFault, IsTraceFault, IsJournalOf};
-ghost use Rattle.trace_check.specs.Endings.{texts, single_of, AsksCheck, AfterReading, IsReadWhole, IsTold, IsRunOf, StopsBy, StopsCheck, StopsFor};
+ghost use Rattle.trace_check.specs.Endings.{texts, single_of, AsksCheck, AfterReading, IsInputTaken, IsTold, IsRunOf, StopsBy, StopsCheck, StopsFor};
 ghost use Rattle.trace_check.specs.Steps.{Reads};
 ghost use Rattle.trace_check.specs.Notes.{accepted_line};
 
@@ -59,8 +59,8 @@ pub(crate) fn work<S: Source>(
 ) -> Result<Bytes, Stop>
     ensures told { IfOk result (λ text. IsTold (texts words.now) (S.left source.old) text) }
     ensures stop { IfErr result (λ stop. StopsFor (texts words.now) (S.left source.old) (S.faults source.old) (S.faults source.new) stop) }
-    // The source is read to its end for a check, and else not at all.
-    ensures whole { AsksCheck (texts words.now) → MatchResult result (λ _. IsReadWhole (S.left source.old) (S.left source.new)) (λ stop. AfterReading (IsReadWhole (S.left source.old) (S.left source.new)) stop) }
+    // The source is read for a check alone.
+    ensures taken { AsksCheck (texts words.now) → MatchResult result (λ _. IsInputTaken (S.left source.old) (S.left source.new)) (λ stop. AfterReading (IsInputTaken (S.left source.old) (S.left source.new)) stop) }
     ensures unread { (AsksCheck (texts words.now) → ⊥) →
         (S.left source.new ≡ S.left source.old) × (S.faults source.new ≡ S.faults source.old) }
 {
@@ -75,7 +75,7 @@ pub(crate) fn work<S: Source>(
 fn source_line<S: Source>(alloc: Global, source: &mut S) -> Result<Bytes, Stop>
     ensures told { IfOk result (λ text. (entries : ℕ) × (IfSome (S.left source.old) (λ bytes. IsRunOf bytes entries) × (text ≡ accepted_line entries))) }
     ensures stop { IfErr result (λ stop. StopsCheck (S.left source.old) (S.faults source.old) (S.faults source.new) stop) }
-    ensures whole { MatchResult result (λ _. IsReadWhole (S.left source.old) (S.left source.new)) (λ stop. AfterReading (IsReadWhole (S.left source.old) (S.left source.new)) stop) }
+    ensures taken { MatchResult result (λ _. IsInputTaken (S.left source.old) (S.left source.new)) (λ stop. AfterReading (IsInputTaken (S.left source.old) (S.left source.new)) stop) }
 {
     let input = read_input(alloc, source)?;
     input_line(alloc, input.as_slice())

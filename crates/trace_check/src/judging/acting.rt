@@ -9,7 +9,7 @@ ghost use Rattle.trace_check.specs.Judging.{opened_task};
 ghost use Rattle.trace_check.specs.JudgingActs.{may_act_here, has_rows, may_act, same_bool, may_fetch, may_put, may_diff, may_hold, of_opened};
 ghost use Rattle.trace_check.specs.JudgingTests.{act_of};
 
-use crate::judging::acts::{Act, has_act, is_third_party};
+use crate::judging::acts::{Act, has_act};
 use crate::judging::naming::{names_fetches, opened_task};
 use crate::judging::spelt::{is_spelt, task_bytes};
 use crate::judging::sums::sum_over;
@@ -161,19 +161,22 @@ pub fn may_diff(
     said: &Said,
     sent: bool,
     dropped: bool,
+    back: bool,
 ) -> bool
     requires { target < 255 }
     ensures { result ≡ of_opened (reverse past.now) stamp said.now.command said.now.opened
-        (may_diff setting.now (reverse past.now) target said.now.command said.now.opened said.now.cdb.now said.now.row said.now.bytes.now sent dropped) }
+        (may_diff setting.now (reverse past.now) target said.now.command said.now.opened said.now.cdb.now said.now.row said.now.bytes.now sent dropped back) }
 {
     let Some(task) = opened_task(past, stamp, said.command, said.opened) else {
         return false;
     };
     let act = may_act(setting, past, target, said, task, Act::Diffing, 0);
-    let by_mode = is_same(sent, is_third_party(setting.mode));
+    let written = said.bytes == task.bytes.as_slice();
+    let sends = is_same(sent, setting.mode.sends_delta());
+    let hands = is_same(back, setting.mode.hands_delta_back());
     let due = sent && past.drops(target) > 0;
     let when_due = is_same(dropped, due);
-    act && said.bytes == task.bytes.as_slice() && by_mode && when_due
+    act && written && sends && hands && when_due
 }
 
 /// Whether gathered blocks may be held, over what the target's medium holds.
@@ -186,11 +189,12 @@ pub fn may_hold(
     said: &Said,
     kept: bool,
     names: &[At],
+    back: bool,
     medium: &Medium,
 ) -> Result<bool, Memory>
     requires { target < 255 }
     ensures { IfOk result (λ r. r ≡ of_opened (reverse past.now) stamp said.now.command said.now.opened
-        (may_hold setting.now (reverse past.now) stamp target said.now.command said.now.opened said.now.cdb.now said.now.row said.now.bytes.now kept names.now medium.now)) }
+        (may_hold setting.now (reverse past.now) stamp target said.now.command said.now.opened said.now.cdb.now said.now.row said.now.bytes.now kept names.now back medium.now)) }
 {
     let Some(task) = opened_task(past, stamp, said.command, said.opened) else {
         return Ok(false);
@@ -199,5 +203,5 @@ pub fn may_hold(
     let fetched = names_fetches(past, stamp, setting, said.command, task, names);
     let rows = medium.part(byte_of(setting, said.row), said.bytes.len());
     let sum = sum_over(alloc, past, rows, said.bytes.len(), names)?;
-    Ok(act && kept && fetched && said.bytes == sum.as_slice())
+    Ok(act && kept && !back && fetched && said.bytes == sum.as_slice())
 }

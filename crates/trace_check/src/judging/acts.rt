@@ -1,7 +1,8 @@
 //! Which command acts at which target.
 
-ghost use Rattle.std.specs.Prelude.{◌≡◌, Bool};
-ghost use Rattle.array_journal.specs.Acts.{Fetches, Puts, Diffs, Takes, Folds, Holds, acts_at, has_act, is_target, is_third_party, gatherer};
+ghost use Rattle.std.specs.Prelude.{◌≡◌};
+ghost use Rattle.array_journal.specs.Acts.{Fetches, Puts, Diffs, Takes, Folds, Holds, acts_at, has_act, is_target, gatherer};
+ghost use Rattle.stripe_layout.specs.declared.mode.Mode.{Mode};
 ghost use Rattle.trace_check.specs.JudgingTests.{act_of};
 
 use array_journal::{Kind, Setting, Task};
@@ -18,28 +19,19 @@ pub enum Act {
     Holding,
 }
 
-pub fn is_third_party(mode: Mode) -> bool
-    ensures { result ≡ is_third_party mode }
-{
-    match mode {
-        Mode::Supervised => false,
-        Mode::ThirdParty => true,
-    }
-}
-
-/// The target that gathers for a degraded read in third-party mode.
+/// The target that gathers for a degraded read, where a target does.
 pub fn gatherer(task: &Task) -> usize
     ensures { result ≡ gatherer task.now }
 {
     if task.target == 0 { 1 } else { 0 }
 }
 
-fn fetches_at(third: bool, task: &Task, target: usize) -> bool
-    ensures { result ≡ acts_at third Fetches task.now.kind task.now target }
+fn fetches_at(mode: Mode, task: &Task, target: usize) -> bool
+    ensures { result ≡ acts_at mode Fetches task.now.kind task.now target }
 {
     let own = usize::from(task.target) == target;
     let parity = usize::from(task.parity) == target;
-    let gathers = third && gatherer(task) == target;
+    let gathers = mode.target_gathers() && gatherer(task) == target;
     match task.kind {
         Kind::Read => own,
         Kind::DegradedRead => !own && !gathers,
@@ -51,7 +43,7 @@ fn fetches_at(third: bool, task: &Task, target: usize) -> bool
 }
 
 fn puts_at(task: &Task, target: usize) -> bool
-    ensures { (third : Bool) → result ≡ acts_at third Puts task.now.kind task.now target }
+    ensures { (mode : Mode) → result ≡ acts_at mode Puts task.now.kind task.now target }
 {
     let own = usize::from(task.target) == target;
     let parity = usize::from(task.parity) == target;
@@ -63,7 +55,7 @@ fn puts_at(task: &Task, target: usize) -> bool
 }
 
 fn diffs_at(task: &Task, target: usize) -> bool
-    ensures { (third : Bool) → result ≡ acts_at third Diffs task.now.kind task.now target }
+    ensures { (mode : Mode) → result ≡ acts_at mode Diffs task.now.kind task.now target }
 {
     match task.kind {
         Kind::Update => usize::from(task.target) == target,
@@ -71,18 +63,18 @@ fn diffs_at(task: &Task, target: usize) -> bool
     }
 }
 
-fn takes_at(third: bool, task: &Task, target: usize) -> bool
-    ensures { result ≡ acts_at third Takes task.now.kind task.now target }
+fn takes_at(mode: Mode, task: &Task, target: usize) -> bool
+    ensures { result ≡ acts_at mode Takes task.now.kind task.now target }
 {
     match task.kind {
-        Kind::Update => !third && usize::from(task.target) == target,
-        Kind::DegradedRead => third && gatherer(task) == target,
+        Kind::Update => mode.takes_delta() && usize::from(task.target) == target,
+        Kind::DegradedRead => mode.target_gathers() && gatherer(task) == target,
         _ => false,
     }
 }
 
 fn folds_at(task: &Task, target: usize) -> bool
-    ensures { (third : Bool) → result ≡ acts_at third Folds task.now.kind task.now target }
+    ensures { (mode : Mode) → result ≡ acts_at mode Folds task.now.kind task.now target }
 {
     match task.kind {
         Kind::Update => usize::from(task.parity) == target,
@@ -90,25 +82,25 @@ fn folds_at(task: &Task, target: usize) -> bool
     }
 }
 
-fn holds_at(third: bool, task: &Task, target: usize) -> bool
-    ensures { result ≡ acts_at third Holds task.now.kind task.now target }
+fn holds_at(mode: Mode, task: &Task, target: usize) -> bool
+    ensures { result ≡ acts_at mode Holds task.now.kind task.now target }
 {
     match task.kind {
-        Kind::DegradedRead => third && gatherer(task) == target,
+        Kind::DegradedRead => mode.target_gathers() && gatherer(task) == target,
         _ => false,
     }
 }
 
-fn acts_at(third: bool, act: Act, task: &Task, target: usize) -> bool
-    ensures { result ≡ acts_at third (act_of act) task.now.kind task.now target }
+fn acts_at(mode: Mode, act: Act, task: &Task, target: usize) -> bool
+    ensures { result ≡ acts_at mode (act_of act) task.now.kind task.now target }
 {
     match act {
-        Act::Fetching => fetches_at(third, task, target),
+        Act::Fetching => fetches_at(mode, task, target),
         Act::Putting => puts_at(task, target),
         Act::Diffing => diffs_at(task, target),
-        Act::Taking => takes_at(third, task, target),
+        Act::Taking => takes_at(mode, task, target),
         Act::Folding => folds_at(task, target),
-        Act::Holding => holds_at(third, task, target),
+        Act::Holding => holds_at(mode, task, target),
     }
 }
 
@@ -116,8 +108,7 @@ fn acts_at(third: bool, act: Act, task: &Task, target: usize) -> bool
 pub fn has_act(setting: &Setting, act: Act, task: &Task, target: usize) -> bool
     ensures { result ≡ has_act setting.now (act_of act) task.now target }
 {
-    target < usize::from(setting.geometry.targets)
-        && acts_at(is_third_party(setting.mode), act, task, target)
+    target < usize::from(setting.geometry.targets) && acts_at(setting.mode, act, task, target)
 }
 
 /// Whether a command with this task acts at a target.

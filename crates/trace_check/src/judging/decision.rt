@@ -10,7 +10,7 @@ ghost use Rattle.journal_index.specs.Standings.{standing_tasks};
 ghost use Rattle.trace_check.specs.JudgingBook.{decision_of, held_where};
 ghost use Rattle.trace_check.specs.JudgingEnds.{passes_task};
 
-use crate::judging::acts::{gatherer, is_third_party};
+use crate::judging::acts::gatherer;
 use crate::judging::commands::do_tasks_conflict;
 use array_journal::{Kind, Setting, Task, Why};
 use journal_index::Past;
@@ -151,10 +151,11 @@ pub fn is_any_in_way(past: &Past, task: &Task) -> bool
 fn holder_of(setting: &Setting, task: &Task) -> Option<usize>
     ensures { result ≡ holder_of setting.now task.now.kind task.now }
 {
-    let third = is_third_party(setting.mode);
+    let waits = setting.mode.update_needs_room();
+    let gathers = setting.mode.target_gathers();
     match task.kind {
-        Kind::Update if !third => Some(usize::from(task.target)),
-        Kind::DegradedRead if third => Some(gatherer(task)),
+        Kind::Update if waits => Some(usize::from(task.target)),
+        Kind::DegradedRead if gathers => Some(gatherer(task)),
         _ => None,
     }
 }

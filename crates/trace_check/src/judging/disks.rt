@@ -36,7 +36,7 @@ fn take_rows(
     buffer.take(alloc, rows)
 }
 
-/// Holds the delta of a diff that sends nothing.
+/// Holds the delta of a diff that neither sends it nor hands it back.
 fn hold_delta(
     alloc: Global,
     setting: &Setting,
@@ -69,6 +69,7 @@ fn hold_event(
             row,
             bytes,
             sent: false,
+            back: false,
             ..
         } => { hold_delta(alloc, setting, medium, buffer, *command, *row, bytes) }
         Event::Hold {

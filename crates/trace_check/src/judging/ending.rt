@@ -8,7 +8,7 @@ ghost use Rattle.array_journal.specs.May.{first_taken, closed_bytes};
 ghost use Rattle.trace_check.specs.Judging.{all_named};
 ghost use Rattle.trace_check.specs.JudgingEnds.{names_acts, cause_of_loss, may_close_whole, may_close_unfolded, cause_before, cause_of_kind, cause_at, is_cause, may_give_up, may_close, lost_delta, may_spoil};
 
-use crate::judging::acts::{Act, is_target, is_third_party};
+use crate::judging::acts::{Act, is_target};
 use crate::judging::naming::{
     do_names_rise, is_all_named, is_each_own, is_fold_named, names, names_shuts,
 };
@@ -79,7 +79,7 @@ fn is_answer(
     if !matches!(task.kind, Kind::DegradedRead) {
         return Ok(bytes == [].as_slice());
     }
-    if is_third_party(setting.mode) {
+    if setting.mode.target_gathers() {
         return Ok(bytes == first_taken(past, names));
     }
     let sum = sum_over(

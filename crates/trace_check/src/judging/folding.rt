@@ -8,11 +8,12 @@ ghost use Rattle.array_journal.specs.declared.task.Task.{Task};
 ghost use Rattle.array_journal.specs.Deltas.{delta_in, delta_at};
 ghost use Rattle.array_journal.specs.Entries.{same_at, entry_at};
 ghost use Rattle.array_journal.specs.Lists.{slice};
+ghost use Rattle.array_journal.specs.May.{is_under_way};
 ghost use Rattle.array_journal.specs.Media.{media};
 ghost use Rattle.trace_check.specs.JudgingActs.{same_found, is_source, one_source, may_fold, of_opened};
 
 use crate::judging::acting::{Said, byte_of, may_act};
-use crate::judging::acts::{Act, is_third_party};
+use crate::judging::acts::Act;
 use crate::judging::naming::opened_task;
 use crate::judging::sums::fold_in;
 use array_journal::{At, Entry, Event, Setting, Task};
@@ -20,6 +21,7 @@ use blocks_core::{Bytes, Memory};
 use journal_index::Past;
 use std::alloc::Global;
 use stripe_check::{Medium, write_event};
+use stripe_layout::Mode;
 
 /// The exclusive-or of what stands on a medium from a row on, and bytes.
 pub fn delta_of(
@@ -142,6 +144,16 @@ fn is_found(bytes: &[u8], found: Option<Bytes>) -> bool
     }
 }
 
+/// Whether the delta of a diff is on its way to parity: its target sent it and no request was dropped, or
+/// the controller has it back.
+fn is_under_way(mode: Mode, sent: bool, dropped: bool, back: bool) -> bool
+    ensures { result ≡ is_under_way mode sent dropped back }
+{
+    let at_parity = mode.sends_delta() && sent && !dropped;
+    let handed_back = mode.hands_delta_back() && back;
+    at_parity || handed_back
+}
+
 /// Whether a fold may rest on an event.
 fn is_source(
     alloc: Global,
@@ -164,10 +176,12 @@ fn is_source(
                 command,
                 sent,
                 dropped,
+                back,
                 ..
             },
         ) => {
-            if !is_third_party(setting.mode) || *command != said.command || !*sent || *dropped {
+            let under_way = is_under_way(setting.mode, *sent, *dropped, *back);
+            if !under_way || *command != said.command {
                 return Ok(false);
             }
             let delta = delta_at(alloc, setting, past, usize::from(target), name)?;

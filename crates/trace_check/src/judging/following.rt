@@ -172,9 +172,10 @@ fn may_act(
             bytes,
             sent,
             dropped,
+            back,
         } => {
             let said = said(*command, *opened, cdb, *row, bytes);
-            Ok(may_diff(setting, past, stamp, target, &said, *sent, *dropped))
+            Ok(may_diff(setting, past, stamp, target, &said, *sent, *dropped, *back))
         }
         Event::Take {
             command,
@@ -205,6 +206,7 @@ fn may_act(
             bytes,
             kept,
             names,
+            back,
         } => {
             let said = said(*command, *opened, cdb, *row, bytes);
             may_hold(
@@ -216,6 +218,7 @@ fn may_act(
                 &said,
                 *kept,
                 names.as_slice(),
+                *back,
                 medium,
             )
         }

@@ -1,14 +1,15 @@
 //! The command descriptor blocks that acts are sent as.
 
 ghost use Rattle.std.specs.Prelude.{◌≡◌, ◌↔◌, IsTrue};
-ghost use Rattle.array_journal.specs.Acts.{cdb_of, task_bytes, list_length};
+ghost use Rattle.array_journal.specs.Acts.{cdb_of, diff_command, task_bytes, list_length};
 ghost use Rattle.sbc_cdbs.specs.Cdbs.{Spells, cdb_bytes};
 ghost use Rattle.trace_check.specs.JudgingActs.{is_spelt};
 ghost use Rattle.trace_check.specs.JudgingTests.{act_of};
 
-use crate::judging::acts::{Act, is_third_party};
+use crate::judging::acts::Act;
 use array_journal::{Kind, Setting, Task};
 use sbc_cdbs::{Cdb, Command, decode};
+use stripe_layout::Mode;
 
 /// The bytes of a task's blocks.
 pub fn task_bytes(setting: &Setting, task: &Task) -> u64
@@ -29,6 +30,49 @@ fn list_length(setting: &Setting, task: &Task, sources: usize) -> u128
     4 + 16 * (sources as u128) + u128::from(blocks)
 }
 
+/// Whether a command writes the blocks of an update's task and makes its delta, as the mode has it.
+fn is_diff_command(command: &Command, mode: Mode, task: &Task) -> bool
+    ensures { IsTrue result ↔ (command.now ≡ diff_command mode task.now) }
+{
+    match (mode, *command) {
+        (
+            Mode::Supervised,
+            Command::XdWrite {
+                dpo: false,
+                fua: false,
+                disable: false,
+                lba,
+                length,
+            },
+        ) => { lba == task.row && u32::from(length) == task.count }
+        (
+            Mode::ThirdParty,
+            Command::XdWriteExtended {
+                dpo: false,
+                fua: false,
+                disable: false,
+                lba,
+                second,
+                length,
+                address,
+            },
+        ) => {
+            lba == task.row && second == task.row && length == task.count && address == task.parity
+        }
+        (
+            Mode::Readback,
+            Command::XdWriteRead {
+                dpo: false,
+                fua: false,
+                disable: false,
+                lba,
+                length,
+            },
+        ) => { lba == task.row && u32::from(length) == task.count }
+        _ => false,
+    }
+}
+
 /// Whether a command is that of an act of a task that rests on so many fetches.
 fn is_command_of(
     command: &Command,
@@ -39,7 +83,7 @@ fn is_command_of(
 ) -> bool
     ensures { IsTrue result ↔ (command.now ≡ cdb_of setting.now task.now sources (act_of act)) }
 {
-    let third = is_third_party(setting.mode);
+    let gathers = setting.mode.target_gathers() && !matches!(task.kind, Kind::DataOnly);
     let list = list_length(setting, task, sources);
     match (act, *command) {
         (
@@ -59,11 +103,7 @@ fn is_command_of(
                 lba,
                 length,
             },
-        ) => {
-            !(third && !matches!(task.kind, Kind::DataOnly))
-                && lba == task.row
-                && u32::from(length) == task.count
-        }
+        ) => { !gathers && lba == task.row && u32::from(length) == task.count }
         (
             Act::Putting,
             Command::Rebuild {
@@ -75,40 +115,13 @@ fn is_command_of(
                 list: its_list,
             },
         ) => {
-            (third && !matches!(task.kind, Kind::DataOnly))
+            gathers
                 && intdata == matches!(task.kind, Kind::DegradedWrite)
                 && lba == task.row
                 && length == task.count
                 && u128::from(its_list) == list
         }
-        (
-            Act::Diffing,
-            Command::XdWrite {
-                dpo: false,
-                fua: false,
-                disable: false,
-                lba,
-                length,
-            },
-        ) => { !third && lba == task.row && u32::from(length) == task.count }
-        (
-            Act::Diffing,
-            Command::XdWriteExtended {
-                dpo: false,
-                fua: false,
-                disable: false,
-                lba,
-                second,
-                length,
-                address,
-            },
-        ) => {
-            third
-                && lba == task.row
-                && second == task.row
-                && length == task.count
-                && address == task.parity
-        }
+        (Act::Diffing, _) => is_diff_command(command, setting.mode, task),
         (Act::Taking, Command::XdRead { lba, length }) => {
             lba == task.row && u32::from(length) == task.count
         }

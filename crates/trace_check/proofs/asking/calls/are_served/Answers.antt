@@ -1,4 +1,4 @@
-use Rattle.std.proofs.Common.{◌≡◌, ◌+◌, ◌<◌, ◌∙◌, ℕ, List, length, get_or, map, reverse, ap, subst, sym}
+use Rattle.std.proofs.Common.{◌≡◌, ◌+◌, ◌<◌, ◌∙◌, List, length, get_or, map, reverse, ap, subst, sym}
 use Rattle.std.specs.Prelude.{◌↔◌, IsTrue}
 use Rattle.host_scripts.specs.declared.script.Call.{Call}
 use Rattle.stripe_check.specs.Asked.{IsServed}

@@ -1,8 +1,8 @@
 use Rattle.std.proofs.Common.{subst, List, ℕ}
 use Rattle.std.proofs.lemmas.Result.{IfOk-weaker, IfErr-weaker}
-use Rattle.trace_check.specs.Endings.{StopsBy, IsReadWhole, IsRunOf}
+use Rattle.trace_check.specs.Endings.{StopsBy, IsInputTaken, IsRunOf}
 use Rattle.trace_check.specs.Findings.{IsFound}
-use Rattle.trace_check.proofs.Accepted.{run-read, stops-read, whole-left}
+use Rattle.trace_check.proofs.Accepted.{run-read, stops-read}
 use Rattle.trace_check.proofs.Completeness.{after-both}
 use Rattle.trace_check.proofs.checking.verdict.source_line.Goals as goal
 
@@ -14,6 +14,6 @@ pub returns-clause-stop : goal.returns-clause-stop
 returns-clause-stop g c =
     IfErr-weaker c.input_line.result _ _ (λ stop s. stops-read _ c.in_ok-input.input _ _ stop c.in_ok-input.ensures.bytes (let P : List ℕ → Type 0 = λ b. StopsBy (IsFound b) stop in subst P c.as_slice.ensures s)) c.input_line.ensures.stop
 
-pub returns-clause-whole : goal.returns-clause-whole
-returns-clause-whole g c =
-    after-both _ c.input_line.result (whole-left _ _ c.in_ok-input.input c.in_ok-input.ensures.bytes c.in_ok-input.ensures.end)
+pub returns-clause-taken : goal.returns-clause-taken
+returns-clause-taken g c =
+    after-both (IsInputTaken (g.S.Source.left c.args.source.now) (g.S.Source.left c.read_input.new.source)) c.input_line.result c.in_ok-input.ensures.rest
