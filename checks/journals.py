@@ -5,8 +5,10 @@
     journals.py FOLDER answers    writes what it has to answer
 
 FOLDER has NAME.script and NAME.trace for each journal that is a run; changed.txt, journals that differ in
-one place; one-rule.txt, journals that one rule alone refuses at their last entry. further.txt beside this
-script has more of both kinds."""
+one place; one-rule.txt, journals that one rule alone refuses at their last entry. Journals of scripts of
+version 2 are left out, as long as scripts have one version. Beside this script further.txt has more
+journals of these kinds, and lines.txt lines of traces: the answers to these are written there by hand."""
+import json
 import pathlib
 import re
 import sys
@@ -14,11 +16,13 @@ import sys
 
 def setting_of(script):
     words = dict(line.split(" ", 1) for line in script.splitlines()[:8])
-    return " ".join(words[w] for w in ("targets", "block", "unit", "stripes", "buffer", "mode"))
+    area = f"{words['unit']}.{words['stripes']}"
+    return " ".join([words["targets"], words["block"], area, words["buffer"], words["mode"]])
 
 
 def script_of(setting):
-    targets, block, unit, stripes, buffer, mode = setting.split(" ")
+    targets, block, area, buffer, mode = setting.split(" ")
+    unit, stripes = area.split(".")
     lines = ["xorscript 1", f"targets {targets}", f"block {block}", f"unit {unit}", f"stripes {stripes}",
              f"buffer {buffer}", "maxima 0 0 0", f"mode {mode}", "seed 1", "hosts 1"]
     return "".join(line + "\n" for line in lines)
@@ -46,9 +50,10 @@ def change(lines, what):
 
 
 def worked(folder):
-    for script in sorted(folder.glob("*.script")):
-        trace = script.with_suffix(".trace").read_text().splitlines()
-        yield script.stem, setting_of(script.read_text()), trace
+    for path in sorted(folder.glob("*.script")):
+        script = path.read_text()
+        if script.startswith("xorscript 1\n"):
+            yield path.stem, setting_of(script), path.with_suffix(".trace").read_text().splitlines()
 
 
 def ruled(text):
@@ -60,13 +65,15 @@ def ruled(text):
 
 
 def journals(folder):
-    """name, setting, entries, the number of the first that may not follow or 0"""
+    """name, setting, lines of entries, the number of the first entry that may not follow or 0"""
     runs = {}
     for name, setting, trace in worked(folder):
         runs[name] = (setting, trace)
         yield f"run:{name}", setting, trace, 0
     for n, line in enumerate((folder / "changed.txt").read_text().splitlines()):
         name, what, found, rule = [w.strip() for w in line.split("|")]
+        if name not in runs:
+            continue
         setting, trace = runs[name]
         number = int(re.match(r"entry (\d+)", found)[1])
         yield f"changed:{n + 1}:{name}:{rule.replace(' ', '_')}", setting, change(trace, what), number
@@ -80,17 +87,43 @@ def journals(folder):
             yield f"further-before:{name}", setting, lines[:number - 1], 0
 
 
-def main():
-    folder = pathlib.Path(sys.argv[1])
-    for name, setting, lines, number in journals(folder):
-        if sys.argv[2:] == ["answers"]:
-            print(name, f"entry {number}" if number else "run")
+def read_lines(text):
+    """name, the text of a trace, and its answer"""
+    good, kinds, answer = "0 0 swap 0 1\n0 1 fresh 1 0.0\n", "", ""
+    rows = [row for row in text.splitlines() if row and not row.startswith("#")]
+    for n, row in enumerate(rows):
+        kind, said = row.split(" ", 1)
+        line = json.loads(said)
+        if kind == "line":
+            kinds += line
+        elif kind == "lines-then":
+            yield "lines:one-of-each-kind", kinds, line
+        elif kind == "rising":
+            number, trace = line.split(" ", 1)
+            yield f"lines:{n + 1}:rising", trace, f"no trace, line {number}"
         else:
-            print("journal", name)
-            print(script_of(setting), end="")
-            print("trace")
-            for line in lines:
-                print(line)
+            if line.endswith("\n"):
+                yield f"lines:{n + 1}:first", line, "no trace, line 1"
+            yield f"lines:{n + 1}:third", good + line, "no trace, line 3"
+
+
+def cases(folder):
+    """name, script, trace, answer"""
+    for name, setting, lines, number in journals(folder):
+        trace = "".join(line + "\n" for line in lines)
+        yield name, script_of(setting), trace, f"entry {number}" if number else "run"
+    for name, trace, answer in read_lines(pathlib.Path(__file__).with_name("lines.txt").read_text()):
+        yield name, script_of("3 1 1.1 2 supervised"), trace, answer
+
+
+def main():
+    # A trace without a line end stands last.
+    ordered = sorted(cases(pathlib.Path(sys.argv[1])), key=lambda case: not case[2].endswith("\n"))
+    for name, script, trace, answer in ordered:
+        if sys.argv[2:] == ["answers"]:
+            print(name, answer)
+        else:
+            print(f"journal {name}\n{script}trace\n{trace}", end="")
 
 
 if __name__ == "__main__":

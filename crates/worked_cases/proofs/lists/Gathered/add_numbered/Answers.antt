@@ -1,0 +1,6 @@
+use Rattle.std.proofs.lemmas.Result.{err_from_is_err_and}
+use Rattle.worked_cases.proofs.lists.Gathered.add_numbered.Goals as goal
+
+pub returns-in_err-add_run : goal.returns-in_err-add_run
+returns-in_err-add_run c = λ list part.
+    let p = err_from_is_err_and c.from_residual.result c.from_residual.ensures.1 in rw (p.1, p.2) (c.in_err-add_run.ensures list part)

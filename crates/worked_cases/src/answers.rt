@@ -1,0 +1,95 @@
+//! What calls answer.
+
+ghost use Rattle.std.specs.Prelude.{◌≡◌, [], IfOk};
+ghost use Rattle.worked_cases.specs.Answers.{IsToolAnswer, IsCheckAnswer};
+ghost use Rattle.worked_cases.specs.Runs.{Answers};
+ghost use Rattle.xor_cli.specs.Words.{texts};
+
+use crate::calls::{Call, Outlet, Program};
+use blocks_core::{Bytes, Memory};
+use outer_io::{FailingSink, FailingSource};
+use std::alloc::Global;
+use trace_check::check;
+use xor_cli::tool;
+
+/// What a top call answers: the status, and what it wrote.
+#[derive(Drop)]
+pub struct Answer {
+    pub status: u8,
+    pub out: Bytes,
+    pub notes: Bytes,
+}
+
+/// A sink that nothing was written to.
+fn sink_of(alloc: Global, outlet: Outlet) -> Result<FailingSink, Memory>
+    ensures { IfOk result (λ made. made.sink.bytes ≡ []) }
+{
+    let Outlet { room, fails } = outlet;
+    FailingSink::new(alloc, room, fails)
+}
+
+/// The answer of a call with this status.
+fn answer_of(
+    alloc: Global,
+    status: u8,
+    out: &FailingSink,
+    notes: &FailingSink,
+) -> Result<Answer, Memory>
+    ensures status { IfOk result (λ answer. answer.status ≡ status) }
+    ensures out { IfOk result (λ answer. answer.out ≡ out.now.sink.bytes) }
+    ensures notes { IfOk result (λ answer. answer.notes ≡ notes.now.sink.bytes) }
+{
+    Ok(Answer {
+        status,
+        out: Bytes::from_slice(alloc, out.bytes())?,
+        notes: Bytes::from_slice(alloc, notes.bytes())?,
+    })
+}
+
+/// What `tool` answers.
+fn tool_answer(alloc: Global, call: Call) -> Result<Answer, Memory>
+    ensures { IfOk result (IsToolAnswer (texts call.words.items) call.input) }
+{
+    let Call {
+        words,
+        input,
+        source_fails,
+        out,
+        notes,
+        ..
+    } = call;
+    let mut source = FailingSource::new(input.into_vec(), source_fails);
+    let mut out = sink_of(alloc, out)?;
+    let mut notes = sink_of(alloc, notes)?;
+    let outcome = tool(alloc, words.as_slice(), &mut source, &mut out, &mut notes);
+    answer_of(alloc, outcome.status, &out, &notes)
+}
+
+/// What `check` answers.
+fn check_answer(alloc: Global, call: Call) -> Result<Answer, Memory>
+    ensures { IfOk result (IsCheckAnswer (texts call.words.items) call.input) }
+{
+    let Call {
+        words,
+        input,
+        source_fails,
+        out,
+        notes,
+        ..
+    } = call;
+    let mut source = FailingSource::new(input.into_vec(), source_fails);
+    let mut out = sink_of(alloc, out)?;
+    let mut notes = sink_of(alloc, notes)?;
+    let status = check(alloc, words.as_slice(), &mut source, &mut out, &mut notes);
+    answer_of(alloc, status, &out, &notes)
+}
+
+/// What a call answers.
+pub fn answer_to(alloc: Global, call: Call) -> Result<Answer, Memory>
+    ensures { IfOk result (Answers call) }
+{
+    match call.program {
+        Program::Array => tool_answer(alloc, call),
+        Program::Checker => check_answer(alloc, call),
+    }
+}
