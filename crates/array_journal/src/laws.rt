@@ -1,5 +1,5 @@
-//! Laws of every run of the array, in every setting: of losses, resets, dropped requests, replacements
-//! and rebuilds in any order. Each is the contract of a function that does nothing.
+//! Laws of every run of the array, in every setting in its ranges: of losses, resets, dropped requests,
+//! replacements and rebuilds in any order. Each is the contract of a function that does nothing.
 
 ghost use Rattle.array_journal.specs.Joined.{JoinedPartsLaw, NumbersPartViews};
 ghost use Rattle.array_journal.specs.Waiting.{SlotsWaitLaw};
@@ -114,8 +114,9 @@ pub fn takes_find_what_is_held()
     ensures gathered { GatheredFoundLaw }
 {}
 
-/// An act that is due at a target that isn't gone and hasn't shut its command is never refused: its rows
-/// are in range, no other command holds one of them, the buffer has room, and no disk came meanwhile.
+/// Nothing but a lost disk, a shut or want of memory stands in the way of an act that is due: its rows are
+/// in range, no disk came that is too new for it, and where it fills the buffer none of its rows is held
+/// and there is room.
 pub fn due_acts_are_served()
     ensures served { NoOtherAnswerLaw }
 {}

@@ -19,7 +19,8 @@ pub fn others_leave_mine()
     ensures { OthersLeaveMine }
 {}
 
-/// A named entry of an owner stands in a journal exactly where it stands in the owner's entries.
+/// A named entry of an owner stands in a journal exactly where it stands in the owner's entries, as long as
+/// no two entries have one name.
 pub fn own_entries_stand()
     ensures { OwnEntriesStand }
 {}

@@ -1,5 +1,6 @@
-//! The definitions tried: two journals that are runs, and entries that may not follow. Each is a law of
-//! constants.
+//! The definitions tried on journals of constants: journals that are runs, and entries that may not follow
+//! some journal, which the function's sentence tells in general words. Only `two_puts_for_a_write_barred`
+//! speaks of every journal.
 ghost use Rattle.array_journal.specs.Tried.{WriteAndReadRuns, LossMeetsAReadRuns, UnfoldedStaysOpen, UpdateBarsDegradedRead, BesideUpdateRuns, UnputStaysOpen, RebuildingRuns, OldCommandsBarred, ParityReplacedRuns, ListedUnitsUnread, SpoiltRuns, TwoLostUnread, TwoLostRuns};
 ghost use Rattle.array_journal.specs.Wrong.{FoldsTheTaken, OneDiff, UpdatesApart, FetchesWhatStands, RewriteOwesZeros, UpdatesPutNothing, DataAloneWantsParityLost, ShutBarsTheFold};
 ghost use Rattle.array_journal.specs.Examples.{PutAloneRuns, DeltaWipedRuns, RebuiltRuns, GatheredRuns, RefusedRuns};

@@ -68,7 +68,7 @@ pub fn parse(alloc: Global, bytes: &[u8]) -> Result<Script, ScriptFault>
     read_script(alloc, bytes)
 }
 
-/// A script has one spelling, and no other script has it.
+/// No two scripts have one spelling. That a script has only one is in the definition, a function of it.
 pub fn one_spelling()
     ensures { (a b : Script) (bytes : List ℕ) → Spells bytes a → Spells bytes b → a ≡ b }
 {}
