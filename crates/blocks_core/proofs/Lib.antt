@@ -1,1 +1,2 @@
 pub mod XorLaws
+pub mod BlockLists

@@ -1,9 +1,10 @@
 -- The laws of the exclusive-or of lists.
-use Rattle.std.proofs.Common.{◌≡◌, ℕ, zero, suc, ◌<◌, List, [], ◌∷◌, ◌++◌, length, get_or, take, drop, set, refl, ap, sym, ◌∙◌, arith}
+use Rattle.std.proofs.Common.{◌≡◌, ℕ, zero, suc, ◌<◌, ◌≤◌, List, [], ◌∷◌, ◌++◌, length, get_or, take, drop, min, set, refl, ap, sym, ◌∙◌, arith}
 use Rattle.std.specs.Prelude.{bit_xor}
 use Rattle.std.specs.Int.Bits.{xor_assoc, xor_self, xor_zero_l, xor_zero_r}
 use Rattle.std.proofs.lemmas.Nat.{xor_comm}
-use Rattle.blocks_core.specs.Xor.{xor, zeros}
+use Rattle.std.proofs.lemmas.List.{append-nil, length-replicate}
+use Rattle.blocks_core.specs.Xor.{xor, zeros, xor_all}
 
 -- nothing with a list is the list
 pub xor-nil_r : (a : List ℕ) → xor a [] ≡ a
@@ -59,3 +60,68 @@ xor-one_more [] t i h e = absurd (omega arith)
 xor-one_more (x ∷ s) [] i h e = absurd (omega arith)
 xor-one_more (x ∷ s) (y ∷ t) zero h e = refl
 xor-one_more (x ∷ s) (y ∷ t) (suc i) h e = ap (λ l. x ∷ l) (xor-one_more s t i (omega arith) (omega arith))
+
+-- zeros of the same length change nothing
+pub xor-zeros : (b : ℕ) (x : List ℕ) → length x ≡ b → xor x (zeros b) ≡ x
+xor-zeros b x h = ap (λ n. xor x (zeros n)) (sym h) ∙ xor-zeros_r x
+
+pub xor-zeros_l : (b : ℕ) (x : List ℕ) → length x ≡ b → xor (zeros b) x ≡ x
+xor-zeros_l b x h = xor-comm (zeros b) x ∙ xor-zeros b x h
+
+pub zeros-zeros : (b : ℕ) → xor (zeros b) (zeros b) ≡ zeros b
+zeros-zeros b = xor-zeros b (zeros b) (length-replicate b 0)
+
+-- what two lists differ by, put onto the first, gives the second
+pub xor-delta : (b : ℕ) (old new : List ℕ) → length old ≡ b → length new ≡ b → xor old (xor old new) ≡ new
+xor-delta b old new h k = sym (xor-assoc old old new) ∙ ap (λ z. xor z new) (xor-self old ∙ ap zeros h) ∙ xor-zeros_l b new k
+
+-- the order of a change and the rest is free
+pub xor-swap : (x y z : List ℕ) → xor (xor x y) z ≡ xor (xor x z) y
+xor-swap x y z = xor-assoc x y z ∙ ap (xor x) (xor-comm y z) ∙ sym (xor-assoc x z y)
+
+-- zeros that are no longer than the list, before it
+pub xor-zeros_front : (n : ℕ) (a : List ℕ) → n ≤ length a → xor (zeros n) a ≡ a
+xor-zeros_front zero a le = refl
+xor-zeros_front (suc n) [] le = let no : ⊥ = omega arith in absurd no
+xor-zeros_front (suc n) (x ∷ a) le = ap (λ h. h ∷ xor (zeros n) a) (xor_zero_l x) ∙ ap (λ t. x ∷ t) (xor-zeros_front n a (omega arith))
+
+-- what stands behind the shorter list stays
+pub xor-front : (a b : List ℕ) → length b ≤ length a → xor (take (length b) a) b ++ drop (length b) a ≡ xor a b
+xor-front a [] le = sym (xor-nil_r a)
+xor-front [] (y ∷ b) le = let no : ⊥ = omega arith in absurd no
+xor-front (x ∷ a) (y ∷ b) le = ap (λ t. bit_xor x y ∷ t) (xor-front a b (omega arith))
+
+-- what reaches past the end may be put behind it first
+pub xor-late : (a b : List ℕ) (within : ℕ) → within ≡ min (length b) (length a) → xor (a ++ drop within b) (take within b) ≡ xor a b
+xor-late [] b zero e = xor-nil_r b
+xor-late [] b (suc n) e = let no : ⊥ = omega arith in absurd no
+xor-late (x ∷ a) [] zero e = ap (λ t. x ∷ t) (append-nil a)
+xor-late (x ∷ a) [] (suc n) e = let no : ⊥ = omega arith in absurd no
+xor-late (x ∷ a) (y ∷ b) zero e = let no : ⊥ = omega arith in absurd no
+xor-late (x ∷ a) (y ∷ b) (suc n) e = ap (λ t. bit_xor x y ∷ t) (xor-late a b n (omega arith))
+
+-- the longer of two lists tells the length
+pub length-xor_le : (a b : List ℕ) → length a ≤ length b → length (xor a b) ≡ length b
+length-xor_le [] b le = refl
+length-xor_le (x ∷ a) [] le = let no : ⊥ = omega arith in absurd no
+length-xor_le (x ∷ a) (y ∷ b) le = ap suc (length-xor_le a b (omega arith))
+
+pub length-xor_front : (a b : List ℕ) → length b ≤ length a → length (xor a b) ≡ length a
+length-xor_front [] [] le = refl
+length-xor_front [] (y ∷ b) le = let no : ⊥ = omega arith in absurd no
+length-xor_front (x ∷ a) [] le = refl
+length-xor_front (x ∷ a) (y ∷ b) le = ap suc (length-xor_front a b (omega arith))
+
+length-xor_ge : (a b : List ℕ) → length b ≤ length (xor a b)
+length-xor_ge [] b = omega arith
+length-xor_ge (x ∷ a) [] = omega arith
+length-xor_ge (x ∷ a) (y ∷ b) = let h = length-xor_ge a b in omega arith
+
+length-zeros : (n : ℕ) → n ≤ length (zeros n)
+length-zeros zero = omega arith
+length-zeros (suc n) = let h = length-zeros n in omega arith
+
+-- the exclusive-or of any number of blocks is no shorter than a block
+pub length-xor_all : (n : ℕ) (bs : List (List ℕ)) → n ≤ length (xor_all n bs)
+length-xor_all n [] = length-zeros n
+length-xor_all n (b ∷ bs) = let h = length-xor_all n bs in let k = length-xor_ge b (xor_all n bs) in omega arith

@@ -1,5 +1,6 @@
 -- Exclusive-or of lists of bytes, by place.
-use Rattle.std.specs.Prelude.{ℕ, List, [], ◌∷◌, bit_xor, replicate}
+use Rattle.std.specs.Prelude.{ℕ, Bool, ◌==◌, List, [], ◌∷◌, bit_xor, replicate}
+use Rattle.std.specs.List.{list_all}
 
 -- the exclusive-or of two lists by place; where one is longer, its rest stands as it is
 abbrev pub xor : List ℕ → List ℕ → List ℕ
@@ -15,3 +16,7 @@ zeros n = replicate n 0
 abbrev pub xor_all : ℕ → List (List ℕ) → List ℕ
 xor_all n [] = zeros n
 xor_all n (b ∷ bs) = xor b (xor_all n bs)
+
+-- all bytes are zero
+abbrev pub is_zero : List ℕ → Bool
+is_zero bytes = list_all (λ b. b == 0) bytes

@@ -38,3 +38,12 @@ fn blocks_are_whole(rt: HostRuntime) -> Result<(), Fail> {
     assert_eq!(rt; c.as_slice(), [4, 4, 4, 12].as_slice());
     Ok(())
 }
+
+#[test]
+fn sums_grow_with_what_is_added(rt: HostRuntime) -> Result<(), Fail> {
+    let mut sum = XorSum::new(rt.alloc(), 1)?;
+    sum.add(&[5, 1])?;
+    sum.add(&[4])?;
+    assert_eq!(rt; sum.into_bytes().as_slice(), [1, 1].as_slice());
+    Ok(())
+}
