@@ -13,6 +13,7 @@ impl<const BYTE: usize, const HIGH: u8, const LOW: u8> Field<BYTE, HIGH, LOW> {
         requires top { HIGH ≤ 7 }
         ensures { result ≡ bits HIGH LOW (slice_index bytes.now BYTE) }
     {
+        // In 16 bits, since a field may be the whole byte, and 1 << 8 is more than eight bits hold.
         let size = 1u16 << (HIGH + 1 - LOW);
         ((bytes[BYTE] >> LOW) as u16 % size) as u8
     }
@@ -25,6 +26,8 @@ impl<const BYTE: usize, const HIGH: u8, const LOW: u8> Field<BYTE, HIGH, LOW> {
         requires fits { value < 2 ^ (HIGH + 1 - LOW) }
         ensures { bytes.new ≡ slice_set bytes.old BYTE (with_bits HIGH LOW (slice_index bytes.old BYTE) value) }
     {
+        // By subtraction and not by a mask: the definition is of numbers, and what is taken off and put on
+        // is the field alone.
         let cleared = bytes[BYTE] - (Self::get(bytes) << LOW);
         bytes[BYTE] = cleared + (value << LOW);
     }

@@ -88,6 +88,7 @@ impl Source for FailingSource {
         ensures gives { IfOk result (λ count. Gives count self.old.unread self.new.unread into.old into.new) }
     {
         if self.plan.next_fails() {
+            // A count at its type's end stands still, and `HasRisen` takes that for risen.
             self.failures = self.failures.saturating_add(1);
             return Err(Failed);
         }

@@ -2,8 +2,8 @@
 
 use std::marker::Sync;
 
-/// A place that is passed after an event or a reply, outside every lock: what was made stands already,
-/// and others go on while the one that passes is held.
+/// A place to be passed after an event or a reply. There is no contract: that what was made stands already,
+/// and that others go on meanwhile since no lock is held, is for the one that passes.
 pub trait Gate: Sync {
     /// Passes. A gate may return at once, or later.
     fn pass(&self, point: &GatePoint);

@@ -48,8 +48,8 @@ pub fn read_input<S: Source>(alloc: Global, source: &mut S) -> Result<Bytes, Inp
     ensures bound { IfOk result (λ bytes. length bytes ≤ input_limit + 1) }
     ensures end { IfOk result (λ bytes. length bytes ≤ input_limit → IsAtEnd (S.left source.new)) }
 
-    // What is taken: what is read stood before what is left; and no more than so many bytes, also where memory runs out.
-    // What a call takes that fails is the source's own matter.
+    // What is taken: what is read stood before what is left; and no more than so many bytes, also where
+    // memory runs out. What a call takes that fails is the source's own matter.
     ensures taken { IsErrOf result InputFault.Memory → LosesAtMost (input_limit + 1) (S.left source.old) (S.left source.new) }
     ensures consumed { IfOk result (Consumes (S.left source.old) (S.left source.new)) }
     ensures rest { OnOk result (IfSome (S.left source.old) (λ left. S.left source.new ≡ Some (drop (input_limit + 1) left))) }
@@ -60,6 +60,8 @@ pub fn read_input<S: Source>(alloc: Global, source: &mut S) -> Result<Bytes, Inp
 {
     let mut bytes = Bytes::new(alloc);
     let mut chunk = [0; CHUNK];
+    // One byte past the limit is read, and only one: it tells an input that is too long from one that ends
+    // at the limit.
     while bytes.len() <= READ_LIMIT {
         let room = CHUNK.min(READ_LIMIT + 1 - bytes.len());
         let count = source.read(&mut chunk[..room])?;

@@ -94,7 +94,8 @@ impl MemorySink {
         self.kept.as_slice()
     }
 
-    /// Counts a failure.
+    /// Counts a failure. A count at its type's end stands still, which `HasRisen` takes for risen: so a
+    /// failure is never told without its cause.
     pub(crate) fn fail(&mut self) -> Failed
         ensures counts { self.new ≡ failed self.old }
         ensures never_falls { self.old.faults ≤ self.new.faults }
@@ -121,6 +122,8 @@ impl Sink for MemorySink {
         if count == 0 && !piece.is_empty() {
             return Err(self.fail());
         }
+        // The room was taken when the sink was made, and no more than that is ever put in: so this can't
+        // want memory.
         self.kept.extend_from_slice(&piece[..count]).unwrap();
         Ok(count)
     }

@@ -31,6 +31,8 @@ pub fn decode(bytes: &[u8]) -> Result<Command, CdbFault>
     first_answer(bytes)
 }
 
+/// The same answer by one clause in the place of four: that a fault is answered exactly where it is the
+/// first follows from it, since bytes spell at most one command and have at most one first fault.
 fn first_answer(bytes: &[u8]) -> Result<Command, CdbFault>
     ensures { MatchResult result (Spells bytes.now) (IsFault bytes.now) }
 {

@@ -62,7 +62,7 @@ pub fn encode(command: &Command) -> Cdb
     }
 }
 
-/// Two commands are never spelled alike.
+/// Two commands are never spelt alike.
 pub fn spelling_law()
     ensures { (v w : Command) → Fits v → Fits w → spelling v ≡ spelling w → v ≡ w }
 {}

@@ -1,5 +1,8 @@
-//! The table of each command: its operation code, its fields, and beside them the bits that must be
-//! zero (SBC; SPC for the MODE commands). The last byte of a block, CONTROL, is zero.
+//! The table of each command: its operation code, its fields, and beside them the bits that must be zero
+//! (SBC; SPC for the MODE commands). The last byte of a block, CONTROL, is zero.
+//! The bits that must be zero are just those that neither the operation code nor a field takes. Where a
+//! field is put into a table and not taken out of the mask beside it, decode refuses what encode writes:
+//! against decode's clause `read`.
 
 pub(crate) const READ: u8 = 0x28;
 

@@ -34,6 +34,8 @@ pub fn decode(bytes: &[u8]) -> Result<Sense, SenseFault>
     first_answer(bytes)
 }
 
+/// The same answer by one clause in the place of four: that a fault is answered exactly where it is the
+/// first follows from it, since bytes spell at most one sense and have at most one first fault.
 fn first_answer(bytes: &[u8]) -> Result<Sense, SenseFault>
     ensures { MatchResult result (Spells bytes.now) (IsFault bytes.now) }
 {
@@ -65,6 +67,9 @@ fn first_offending(block: &[u8; 18], header: &Header, additional: &Additional) -
         MatchOption result (EachIndex rest (SharesNone mask rest)) (IsFirstShared mask rest) }
 {
     let mut rest = *block;
+    // Byte 7 has to be 0Ah, where all other fixed bits have to be zero. With 0Ah folded in it is zero
+    // exactly where it is right: so one mask judges all bytes, and the lowest offending one comes first
+    // also where it is this one.
     rest[7] ^= ADDITIONAL_LENGTH;
     first_reserved(&reserved(header, additional), &rest)
 }

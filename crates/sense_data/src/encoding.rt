@@ -71,7 +71,7 @@ fn additional_from(sense: Sense) -> Additional
     }
 }
 
-/// Two senses are never spelled alike.
+/// Two senses are never spelt alike.
 pub fn spelling_law()
     ensures { (v w : Sense) → Fits v → Fits w → spelling v ≡ spelling w → v ≡ w }
 {}

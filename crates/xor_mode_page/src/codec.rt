@@ -11,9 +11,9 @@ use cdb_fields::fields;
 /// The page that 24 bytes spell (SBC). A fault is the length, else the lowest byte, counted from the
 /// page's start, that has a bit that no page has there.
 pub fn decode_page(bytes: &[u8]) -> Result<XorPage, PageFault>
-    // What is read is spelled so.
+    // What is read is spelt so.
     ensures found { IfOk result (Spells bytes.now) }
-    // What is spelled so is read.
+    // What is spelt so is read.
     ensures only { (page : XorPage) → Spells bytes.now page → result ≡ Ok page }
     // What an answered fault says of the bytes.
     ensures fault { IfErr result (IsPageFault bytes.now) }
@@ -23,6 +23,8 @@ pub fn decode_page(bytes: &[u8]) -> Result<XorPage, PageFault>
     first_answer(bytes)
 }
 
+/// The same answer by one clause in the place of four: that a fault is answered exactly where it is the
+/// first follows from it, since bytes spell at most one page and have at most one first fault.
 fn first_answer(bytes: &[u8]) -> Result<XorPage, PageFault>
     ensures { MatchResult result (Spells bytes.now) (IsPageFault bytes.now) }
 {
@@ -67,7 +69,7 @@ pub fn encode_page(page: &XorPage) -> [u8; 24]
     ]
 }
 
-/// Two pages are never spelled alike.
+/// Two pages are never spelt alike.
 pub fn spelling_law()
     ensures { (p q : XorPage) → Fits p → Fits q → spelling p ≡ spelling q → p ≡ q }
 {}

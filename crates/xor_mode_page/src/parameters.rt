@@ -29,6 +29,8 @@ pub fn select(page: &mut XorPage, list: &[u8]) -> Result<(), PageFault>
     // When a fault is answered.
     ensures refused { (e : PageFault) → IsListFault list.now e → result ≡ Err e }
 {
+    // All of the list is judged before the page is touched: a list that is refused for its last byte leaves
+    // the page as it was.
     check(list)?;
     if let Some(listed) = listed_page(list) {
         *page = fields_of(listed);

@@ -21,9 +21,9 @@ pub fn decode(
     bytes_wanted: u64,
 ) -> Result<Params, ParamFault>
     requires { bytes_wanted ≤ 2 ^ 64 - 65540 }
-    // What is read is spelled so.
+    // What is read is spelt so.
     ensures found { IfOk result (Spells bytes.now intdata bytes_wanted) }
-    // What is spelled so is read, unless memory runs out.
+    // What is spelt so is read, unless memory runs out.
     ensures only { (p : Params) → Spells bytes.now intdata bytes_wanted p → MatchResult result (λ q. q ≡ p) (λ e. e ≡ param_fault.Memory) }
     // What an answered fault says of the bytes.
     ensures fault { IfErr result (IsFault bytes.now intdata bytes_wanted) }

@@ -27,7 +27,7 @@ pub fn encode(alloc: Global, params: &Params) -> Result<Bytes, Memory>
     Ok(bytes)
 }
 
-/// Two lists with equally much intermediate data are never spelled alike.
+/// Two lists with equally much intermediate data are never spelt alike.
 pub fn spelling_law()
     ensures { (p q : Params) → Fits p → Fits q → length p.intermediate ≡ length q.intermediate → spelling p ≡ spelling q → p ≡ q }
 {}
