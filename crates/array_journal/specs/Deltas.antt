@@ -7,7 +7,7 @@ use Rattle.array_journal.specs.declared.entry.Entry.{Entry}
 use Rattle.array_journal.specs.declared.event.Event.{Event}
 use Rattle.array_journal.specs.declared.event.Event.TheVariants.{Put, Diff}
 use Rattle.array_journal.specs.declared.setting.Setting.{Setting}
-use Rattle.array_journal.specs.Lists.{block_at}
+use Rattle.blocks_core.specs.Lists.{block_at}
 use Rattle.array_journal.specs.Entries.{name_of, same_at}
 use Rattle.array_journal.specs.Media.{rows_on}
 use Rattle.array_journal.specs.Acts.{Act, Folds, is_act}

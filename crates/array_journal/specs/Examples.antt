@@ -12,7 +12,7 @@ use Rattle.array_journal.specs.declared.task.Kind.TheVariants.{DataOnly, Degrade
 use Rattle.array_journal.specs.declared.task.Task.{Task}
 use Rattle.array_journal.specs.Acts.{Fetches, Puts, Diffs, Takes, Holds}
 use Rattle.array_journal.specs.Run.{Run}
-use Rattle.array_journal.specs.Tried.{tiny, at, entry, task_on, SpellsAct, old_task, two_lost}
+use Rattle.array_journal.specs.ExampleJournals.{tiny, at, entry, task_on, SpellsAct, old_task, two_lost}
 
 abbrev pub one_byte : List ℕ
 one_byte = 1 ∷ []

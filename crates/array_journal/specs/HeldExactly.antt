@@ -1,5 +1,5 @@
 -- What a target holds of a command, to the byte. past is a run so far, with the newest entry first.
-use Rattle.std.specs.Prelude.{◌≡◌, ◌⊎◌, ◌+◌, ℕ, Bool, true, false, List, [], ◌∷◌, Some}
+use Rattle.std.specs.Prelude.{◌≡◌, ◌+◌, ℕ, Bool, true, false, List, Some}
 use Rattle.stripe_layout.specs.Modes.{takes_delta}
 use Rattle.sbc_cdbs.specs.declared.descriptor.Cdb.{Cdb}
 use Rattle.array_journal.specs.declared.at.At.{At}
@@ -7,15 +7,11 @@ use Rattle.array_journal.specs.declared.entry.Entry.{Entry}
 use Rattle.array_journal.specs.declared.event.Event.TheVariants.{Diff, Hold}
 use Rattle.array_journal.specs.declared.setting.Setting.{Setting}
 use Rattle.array_journal.specs.Entries.{entry_at, some_at}
-use Rattle.array_journal.specs.Media.{HeldBlocks, held}
+use Rattle.xor_buffers.specs.Held.{AreAmong}
+use Rattle.array_journal.specs.Media.{held}
 use Rattle.array_journal.specs.Deltas.{delta_at}
 use Rattle.array_journal.specs.Run.{Grows, IsSetting}
 use Rattle.array_journal.specs.Laws.{releases}
-
--- these blocks are among some held ones
-abbrev pub AreAmong : HeldBlocks → List HeldBlocks → Type 0
-AreAmong h [] = ⊥
-AreAmong h (x ∷ hs) = (x ≡ h) ⊎ AreAmong h hs
 
 -- target i holds these bytes for a command, from a row on
 abbrev pub AreHeldThere : Setting → ℕ → List Entry → ℕ → ℕ → List ℕ → Type 0

@@ -11,7 +11,7 @@ use Rattle.array_journal.specs.declared.event.Why.{Why}
 use Rattle.array_journal.specs.declared.task.Kind.{Kind}
 use Rattle.array_journal.specs.declared.task.Kind.TheVariants.{Read, DataOnly, DegradedRead, DegradedWrite}
 use Rattle.array_journal.specs.declared.task.Task.{Task}
-use Rattle.array_journal.specs.Lists.{slice, put}
+use Rattle.blocks_core.specs.Lists.{slice, put}
 use Rattle.array_journal.specs.Commands.{task_of}
 
 -- an item of what hosts were told; lba is the first block's

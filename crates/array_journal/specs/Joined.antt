@@ -10,7 +10,7 @@ use Rattle.array_journal.specs.May.{May}
 use Rattle.array_journal.specs.Merge.{Rises}
 use Rattle.array_journal.specs.Run.{Run}
 use Rattle.array_journal.specs.Laws.{lane}
-use Rattle.array_journal.specs.Tried.{small, at, entry, block, write_task, SpellsAct}
+use Rattle.array_journal.specs.ExampleJournals.{small, at, entry, block, write_task, SpellsAct}
 
 -- some entries are the first of others
 abbrev pub IsBeginning : List Entry → List Entry → Type 0

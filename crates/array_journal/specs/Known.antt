@@ -10,7 +10,7 @@ use Rattle.array_journal.specs.declared.event.Event.TheVariants.{Open}
 use Rattle.array_journal.specs.declared.setting.Setting.{Setting}
 use Rattle.array_journal.specs.declared.task.Kind.TheVariants.{Update}
 use Rattle.array_journal.specs.declared.task.Task.{Task}
-use Rattle.array_journal.specs.Lists.{block_at}
+use Rattle.blocks_core.specs.Lists.{block_at}
 use Rattle.array_journal.specs.Entries.{entry_at}
 use Rattle.array_journal.specs.Commands.{task_of}
 use Rattle.array_journal.specs.Acts.{Fetches, is_act}

@@ -12,7 +12,9 @@ use Rattle.array_journal.specs.declared.task.Task.{Task}
 use Rattle.array_journal.specs.Entries.{name_of, same_at, at_lt, entry_at, some_at, count_at, count_before}
 use Rattle.array_journal.specs.Commands.{ends_command, open_count, is_open, task_of, is_shared}
 use Rattle.array_journal.specs.Acts.{Act, Diffs, Takes, is_act, shuts_command}
-use Rattle.array_journal.specs.Media.{HeldBlocks, held, media, drops}
+use Rattle.xor_buffers.specs.declared.held.HeldBlocks.{HeldBlocks}
+use Rattle.xor_buffers.specs.Held.{has_owner}
+use Rattle.array_journal.specs.Media.{held, media, drops}
 use Rattle.array_journal.specs.Lives.{is_fresh, is_note_of, is_swap_of, is_unfitted, is_gone, life_of, loss_of, swap_count, is_noted, is_absent, is_missing}
 use Rattle.array_journal.specs.Listed.{listed_for}
 use Rattle.array_journal.specs.Deltas.{covers}
@@ -31,11 +33,6 @@ unfitted_count i past = if is_unfitted i past then 1 else 0
 abbrev pub is_loss_from : ℕ → Event → Bool
 is_loss_from w (Gone life call commands) = nat_le w life
 is_loss_from w _ = false
-
--- some held blocks are a command's
-abbrev pub has_owner : ℕ → List HeldBlocks → Bool
-has_owner c [] = false
-has_owner c (h ∷ hs) = (h.owner == c) || has_owner c hs
 
 -- the entries before the one of a name
 abbrev pub entries_before : At → List Entry → List Entry

@@ -15,7 +15,7 @@ pub mod Calm
 pub mod Merge
 pub mod Parts
 pub mod OwnEntries
-pub mod Tried
+pub mod ExampleJournals
 pub mod Examples
 pub mod Laws
 pub mod Wrong

@@ -21,7 +21,8 @@ use Rattle.array_journal.specs.declared.task.Task.{Task}
 use Rattle.array_journal.specs.Entries.{at_lt, entry_at, some_at, count_before, stamps_below}
 use Rattle.array_journal.specs.Commands.{open_count, is_open, task_of}
 use Rattle.array_journal.specs.Acts.{Act, Fetches, Puts, Diffs, Takes, Folds, Holds, has_act, is_target, targets_that, task_bytes, cdb_of, is_act, shuts_command, changes_medium}
-use Rattle.array_journal.specs.Media.{rows_on, held, rows_held, drops, owners_of}
+use Rattle.xor_buffers.specs.Held.{rows_held, owners_of}
+use Rattle.array_journal.specs.Media.{rows_on, held, drops}
 use Rattle.array_journal.specs.Lives.{is_gone, loss_of, life_of, swap_count, is_swap_of, is_unfitted}
 use Rattle.array_journal.specs.Deltas.{delta_at}
 use Rattle.array_journal.specs.Decision.{want_of, Opens, decision, opens_conflict, has_room}

@@ -19,7 +19,8 @@ use Rattle.array_journal.specs.declared.task.Task.{Task}
 use Rattle.array_journal.specs.Entries.{entry_at, some_at, count_before, stamps_below}
 use Rattle.array_journal.specs.Commands.{open_count, task_of}
 use Rattle.array_journal.specs.Acts.{Act, Fetches, Puts, Diffs, Takes, Folds, Holds, has_act, is_target, targets_that, task_bytes, cdb_of, is_act, shuts_command, changes_medium}
-use Rattle.array_journal.specs.Media.{rows_on, held, rows_held, drops}
+use Rattle.xor_buffers.specs.Held.{rows_held}
+use Rattle.array_journal.specs.Media.{rows_on, held, drops}
 use Rattle.array_journal.specs.Lives.{is_gone, is_loss, loss_of, life_of, swap_count, is_swap_of, is_unfitted}
 use Rattle.array_journal.specs.Decision.{want_of, Opens, decision, opens_conflict, has_room}
 use Rattle.array_journal.specs.May.{May, passes, bytes_named, fetched_targets, freshes_after, SomeTask, IsFoldSource, is_read_task, MayGone, MayWipe, IsTask, Rise, is_own_act, is_named, AllNamed, is_loss_in, closed_bytes, shuts_idle, is_wipe_of, is_dropped_diff, discards, IsOpenWith, MaySwap}

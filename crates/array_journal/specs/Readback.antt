@@ -13,7 +13,7 @@ use Rattle.array_journal.specs.Entries.{entry_at}
 use Rattle.array_journal.specs.Media.{held}
 use Rattle.array_journal.specs.May.{May}
 use Rattle.array_journal.specs.Run.{Run}
-use Rattle.array_journal.specs.Tried.{tiny, at, entry, SpellsAct, old_task}
+use Rattle.array_journal.specs.ExampleJournals.{tiny, at, entry, SpellsAct, old_task}
 use Rattle.array_journal.specs.Examples.{one_byte}
 
 abbrev pub tiny_readback : Setting

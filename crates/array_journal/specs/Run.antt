@@ -6,7 +6,8 @@ use Rattle.stripe_layout.specs.declared.geometry.Geometry.{Geometry}
 use Rattle.stripe_layout.specs.Layout.{IsArray, parity_of, lba_at, target_of_unit}
 use Rattle.array_journal.specs.declared.entry.Entry.{Entry}
 use Rattle.array_journal.specs.declared.setting.Setting.{Setting}
-use Rattle.array_journal.specs.Lists.{block_at, numbers}
+use Rattle.blocks_core.specs.Lists.{block_at}
+use Rattle.array_journal.specs.Lists.{numbers}
 use Rattle.array_journal.specs.Entries.{name_of, at_lt}
 use Rattle.array_journal.specs.Commands.{is_open}
 use Rattle.array_journal.specs.Media.{media}

@@ -1,6 +1,6 @@
 -- What a target can answer to an act that is due: past is a run so far, with the newest entry first.
 use Rattle.std.specs.List.{AllByRecursion}
-use Rattle.std.specs.Prelude.{◌≡◌, ◌&&◌, ◌≤◌, ◌+◌, ◌/◌, ℕ, Bool, true, false, List, [], ◌∷◌, length, Some}
+use Rattle.std.specs.Prelude.{◌≡◌, ◌&&◌, ◌≤◌, ◌+◌, ℕ, Bool, true, false, List, length, Some}
 use Rattle.stripe_layout.specs.declared.mode.Mode.{Mode}
 use Rattle.stripe_layout.specs.Layout.{rows_of}
 use Rattle.stripe_layout.specs.Modes.{takes_delta}
@@ -13,7 +13,9 @@ use Rattle.array_journal.specs.declared.task.Task.{Task}
 use Rattle.array_journal.specs.Entries.{entry_at, some_at}
 use Rattle.array_journal.specs.Commands.{is_open}
 use Rattle.array_journal.specs.Acts.{Act, Fetches, Puts, Diffs, Takes, Folds, Holds, has_act, is_act, task_bytes}
-use Rattle.array_journal.specs.Media.{HeldBlocks, held, rows_held}
+use Rattle.xor_buffers.specs.declared.held.HeldBlocks.{HeldBlocks}
+use Rattle.xor_buffers.specs.Held.{rows_held, held_blocks}
+use Rattle.array_journal.specs.Media.{held}
 use Rattle.array_journal.specs.Deltas.{covers, delta_at}
 use Rattle.array_journal.specs.May.{freshes_after}
 use Rattle.array_journal.specs.Run.{Grows, IsSetting}
@@ -35,11 +37,6 @@ fills_buffer mode Fetches = false
 fills_buffer mode Puts = false
 fills_buffer mode Takes = false
 fills_buffer mode Folds = false
-
--- how many blocks are held
-abbrev pub held_blocks : ℕ → List HeldBlocks → ℕ
-held_blocks block [] = 0
-held_blocks block (h ∷ hs) = length h.bytes / block + held_blocks block hs
 
 -- the rows of a task are none of those that are held
 abbrev pub IsApartFrom : Setting → Task → HeldBlocks → Type 0

@@ -12,7 +12,7 @@ use Rattle.array_journal.specs.Deltas.{outstanding}
 use Rattle.array_journal.specs.Entries.{entry_at}
 use Rattle.array_journal.specs.Lives.{is_missing}
 use Rattle.array_journal.specs.May.{May}
-use Rattle.array_journal.specs.Tried.{small, tiny, at, entry, task_on, block, blank, write_task, written, read_task, spoilt}
+use Rattle.array_journal.specs.ExampleJournals.{small, tiny, at, entry, task_on, block, blank, write_task, written, read_task, spoilt}
 
 -- an update up to its diff, and up to its take
 abbrev pub differed : Cdb → List Entry

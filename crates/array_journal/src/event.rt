@@ -167,7 +167,8 @@ pub enum Event {
 }
 
 impl Event {
-    /// A copy with memory of its own.
+    /// A copy with memory of its own. Written by hand, since `clone` can't answer want of memory; the
+    /// clause fails where a field is taken from another.
     pub fn copy(&self, alloc: Global) -> Result<Event, Memory>
         ensures { IfOk result (λ copy. copy ≡ self.now) }
     {

@@ -128,6 +128,8 @@ pub fn merge(alloc: Global, lists: Vec<Entries>) -> Result<Journal, Memory>
         let Entries { kept: mut entries } = list;
         kept.append(&mut entries)?;
     }
+    // Unstable, since a stable sort takes memory. Names of a run differ, so there is nothing that it could
+    // mix up.
     kept.sort_unstable_by_key(|entry| (entry.stamp, entry.lock));
     Ok(Journal { kept })
 }

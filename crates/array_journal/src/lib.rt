@@ -5,13 +5,13 @@
 mod at;
 mod entry;
 mod event;
+pub mod examples;
 mod journal;
 pub mod laws;
 mod names;
 pub mod parts;
 mod setting;
 mod task;
-pub mod tried;
 
 pub use at::At;
 pub use entry::Entry;

@@ -5,6 +5,7 @@ use stripe_layout::{Geometry, Mode};
 #[derive(Clone, Copy, Debug, PartialEq, Eq)]
 pub struct Setting {
     pub geometry: Geometry,
+    /// In blocks, for each target alike.
     pub buffer: u32,
     pub mode: Mode,
 }

@@ -1,4 +1,5 @@
 ghost use Rattle.std.specs.Prelude.{◌≡◌, IfOk};
+ghost use Rattle.array_journal.specs.Listed.{makes_parity};
 
 use blocks_core::{Bytes, Memory};
 use std::alloc::Global;
@@ -41,6 +42,17 @@ pub struct Task {
 }
 
 impl Task {
+    /// Whether its command makes the parity of its stripe anew, so that a dirty stripe is in order again.
+    pub fn makes_parity(&self) -> bool
+        ensures { result ≡ makes_parity self.now.kind self.now }
+    {
+        match self.kind {
+            Kind::Resync => true,
+            Kind::Rebuild => self.target == self.parity,
+            _ => false,
+        }
+    }
+
     /// A copy with memory of its own.
     pub fn copy(&self, alloc: Global) -> Result<Task, Memory>
         ensures { IfOk result (λ copy. copy ≡ self.now) }

@@ -3,7 +3,7 @@ use Rattle.std.proofs.lemmas.Grind.{common_steps}
 use Rattle.std.proofs.lemmas.Fn.{always_returns_same}
 use Rattle.std.specs.List.Sorted.{IsPermutation, IsSortedBy}
 use Rattle.array_journal.specs.Merge.{joined}
-use Rattle.array_journal.proofs.MergeOrder.{sorted-rises, sorted-stays, own_names-of_locks, goes_before}
+use Rattle.array_journal.proofs.runs.MergeOrder.{sorted-rises, sorted-stays, own_names-of_locks, goes_before}
 use Rattle.array_journal.proofs.journal.merge.Goals as goal
 
 pub returns-clause-ordered : goal.returns-clause-ordered

@@ -1,4 +1,4 @@
-use Rattle.array_journal.proofs.RunLaws.{absent_law, present_law}
+use Rattle.array_journal.proofs.runs.RunLaws.{absent_law, present_law}
 use Rattle.array_journal.proofs.laws.absent_units_are_missing_or_gone.Goals as goal
 
 pub returns-clause-exactly : goal.returns-clause-exactly

@@ -1,4 +1,4 @@
-use Rattle.array_journal.proofs.ServedActs.{no-other_answer}
+use Rattle.array_journal.proofs.held.ServedActs.{no-other_answer}
 use Rattle.array_journal.proofs.laws.due_acts_are_served.Goals as goal
 
 pub returns : goal.returns

@@ -1,4 +1,4 @@
-use Rattle.array_journal.proofs.RunLaws.{alone_law, undisturbed_law}
+use Rattle.array_journal.proofs.runs.RunLaws.{alone_law, undisturbed_law}
 use Rattle.array_journal.proofs.laws.exclusive_commands_are_alone.Goals as goal
 
 pub returns-clause-alone : goal.returns-clause-alone

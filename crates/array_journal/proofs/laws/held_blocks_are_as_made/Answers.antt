@@ -1,4 +1,4 @@
-use Rattle.array_journal.proofs.ExactlyHeld.{delta-exactly, gathered-exactly}
+use Rattle.array_journal.proofs.held.ExactlyHeld.{delta-exactly, gathered-exactly}
 use Rattle.array_journal.proofs.laws.held_blocks_are_as_made.Goals as goal
 
 pub returns-clause-delta : goal.returns-clause-delta

@@ -1,4 +1,4 @@
-use Rattle.array_journal.proofs.RunLaws.{owners_law, held_apart_law, delta_held_law}
+use Rattle.array_journal.proofs.runs.RunLaws.{owners_law, held_apart_law, delta_held_law}
 use Rattle.array_journal.proofs.laws.held_blocks_are_of_open_commands.Goals as goal
 
 pub returns-clause-owners : goal.returns-clause-owners

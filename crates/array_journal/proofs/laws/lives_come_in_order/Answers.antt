@@ -1,4 +1,4 @@
-use Rattle.array_journal.proofs.RunLaws.{lives_law, fresh_law, mended_law, unfitted_law}
+use Rattle.array_journal.proofs.runs.RunLaws.{lives_law, fresh_law, mended_law, unfitted_law}
 use Rattle.array_journal.proofs.laws.lives_come_in_order.Goals as goal
 
 pub returns-clause-counted : goal.returns-clause-counted

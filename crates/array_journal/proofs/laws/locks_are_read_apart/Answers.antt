@@ -1,4 +1,4 @@
-use Rattle.array_journal.proofs.RunLaws.{target_lane_law, book_lane_law, named_lane_law}
+use Rattle.array_journal.proofs.runs.RunLaws.{target_lane_law, book_lane_law, named_lane_law}
 use Rattle.array_journal.proofs.laws.locks_are_read_apart.Goals as goal
 
 pub returns-clause-target : goal.returns-clause-target

@@ -1,4 +1,4 @@
-use Rattle.array_journal.proofs.WindowStart.{updates-owe}
+use Rattle.array_journal.proofs.windows.WindowStart.{updates-owe}
 use Rattle.array_journal.proofs.laws.only_updates_owe.Goals as goal
 
 pub returns : goal.returns

@@ -1,4 +1,4 @@
-use Rattle.array_journal.proofs.ReadsRight.{legal_law}
+use Rattle.array_journal.proofs.reads.ReadsRight.{legal_law}
 use Rattle.array_journal.proofs.laws.reads_are_right.Goals as goal
 
 pub returns : goal.returns

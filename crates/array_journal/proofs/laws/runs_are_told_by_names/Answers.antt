@@ -1,4 +1,4 @@
-use Rattle.array_journal.proofs.RunLaws.{beginnings_law, by_names_law}
+use Rattle.array_journal.proofs.runs.RunLaws.{beginnings_law, by_names_law}
 use Rattle.array_journal.proofs.laws.runs_are_told_by_names.Goals as goal
 
 pub returns-clause-beginnings : goal.returns-clause-beginnings

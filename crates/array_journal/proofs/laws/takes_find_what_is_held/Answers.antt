@@ -1,4 +1,4 @@
-use Rattle.array_journal.proofs.FoundRows.{delta-found, gathered-found}
+use Rattle.array_journal.proofs.held.FoundRows.{delta-found, gathered-found}
 use Rattle.array_journal.proofs.laws.takes_find_what_is_held.Goals as goal
 
 pub returns-clause-delta : goal.returns-clause-delta

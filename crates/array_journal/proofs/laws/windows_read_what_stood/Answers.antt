@@ -1,4 +1,4 @@
-use Rattle.array_journal.proofs.WindowStart.{window-reads_stood}
+use Rattle.array_journal.proofs.windows.WindowStart.{window-reads_stood}
 use Rattle.array_journal.proofs.laws.windows_read_what_stood.Goals as goal
 
 pub returns : goal.returns

@@ -1,4 +1,4 @@
-use Rattle.array_journal.proofs.CallLaws.{new-to_both, new-calls_have_nothing}
+use Rattle.array_journal.proofs.runs.CallLaws.{new-to_both, new-calls_have_nothing}
 use Rattle.array_journal.proofs.parts.new_calls.Goals as goal
 
 pub returns-clause-both : goal.returns-clause-both

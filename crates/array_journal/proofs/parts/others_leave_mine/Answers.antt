@@ -1,4 +1,4 @@
-use Rattle.array_journal.proofs.OwnLaws.{others-leave_mine}
+use Rattle.array_journal.proofs.runs.OwnLaws.{others-leave_mine}
 use Rattle.array_journal.proofs.parts.others_leave_mine.Goals as goal
 
 pub returns : goal.returns

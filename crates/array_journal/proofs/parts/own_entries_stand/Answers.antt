@@ -1,4 +1,4 @@
-use Rattle.array_journal.proofs.OwnLaws.{own_entries-stand}
+use Rattle.array_journal.proofs.runs.OwnLaws.{own_entries-stand}
 use Rattle.array_journal.proofs.parts.own_entries_stand.Goals as goal
 
 pub returns : goal.returns

@@ -1,4 +1,4 @@
-use Rattle.array_journal.proofs.OwnLaws.{own_tests-agree}
+use Rattle.array_journal.proofs.runs.OwnLaws.{own_tests-agree}
 use Rattle.array_journal.proofs.parts.own_tests_agree.Goals as goal
 
 pub returns : goal.returns

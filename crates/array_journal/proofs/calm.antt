@@ -1,0 +1,9 @@
+pub mod CalmEntries
+pub mod CalmCommands
+pub mod ActSteps
+pub mod Opening
+pub mod ReadRuns
+pub mod UpdateRuns
+pub mod UpdateQuiet
+pub mod UpdateSteps
+pub mod CalmServed

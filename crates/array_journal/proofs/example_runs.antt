@@ -1,0 +1,6 @@
+pub mod TriedRuns
+pub mod TriedBars
+pub mod WrongBars
+pub mod ReadbackRuns
+pub mod TriedPasts
+pub mod ExampleRuns

@@ -1,0 +1,5 @@
+use Rattle.array_journal.proofs.example_runs.TriedRuns.{loss-meets_a_read}
+use Rattle.array_journal.proofs.examples.loss_meets_a_read.Goals as goal
+
+pub returns : goal.returns
+returns c = loss-meets_a_read

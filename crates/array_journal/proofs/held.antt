@@ -1,0 +1,10 @@
+pub mod HeldOwners
+pub mod HeldLaws
+pub mod TakenWhole
+pub mod HeldDeltas
+pub mod HeldGathers
+pub mod TaskPlaces
+pub mod ExactlyHeld
+pub mod FoundRows
+pub mod RoomLaws
+pub mod ServedActs

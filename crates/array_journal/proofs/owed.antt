@@ -1,0 +1,10 @@
+pub mod EndedCommands
+pub mod DeltaLaws
+pub mod OwedLists
+pub mod OwedItems
+pub mod OwedSteps
+pub mod EndedUpdates
+pub mod RenewedParity
+pub mod OwedLaws
+pub mod SumLaw
+pub mod KeptRuns

@@ -1,0 +1,15 @@
+pub mod Steps
+pub mod Standing
+pub mod CommandLaws
+pub mod LaneLaws
+pub mod BeginningLaws
+pub mod RunLaws
+pub mod MergeOrder
+pub mod OwnLaws
+pub mod PartsLaws
+pub mod BookLanes
+pub mod WiderPasts
+pub mod JoinedParts
+pub mod CallLaws
+pub mod JoinedViews
+pub mod GuardedRuns

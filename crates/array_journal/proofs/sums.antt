@@ -1,0 +1,5 @@
+pub mod LayoutLaws
+pub mod XorSums
+pub mod CoveredRows
+pub mod TargetSums
+pub mod RowSums

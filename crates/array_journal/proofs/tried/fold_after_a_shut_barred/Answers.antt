@@ -1,5 +1,0 @@
-use Rattle.array_journal.proofs.WrongBars.{shut-bars_the_fold}
-use Rattle.array_journal.proofs.tried.fold_after_a_shut_barred.Goals as goal
-
-pub returns : goal.returns
-returns c = shut-bars_the_fold

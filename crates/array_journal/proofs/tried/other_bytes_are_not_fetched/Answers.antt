@@ -1,5 +1,0 @@
-use Rattle.array_journal.proofs.WrongBars.{fetches-what_stands}
-use Rattle.array_journal.proofs.tried.other_bytes_are_not_fetched.Goals as goal
-
-pub returns : goal.returns
-returns c = fetches-what_stands

@@ -1,5 +1,0 @@
-use Rattle.array_journal.proofs.TriedPasts.{beside_update-runs}
-use Rattle.array_journal.proofs.tried.update_bars_degraded_read.Goals as goal
-
-pub returns-clause-run : goal.returns-clause-run
-returns-clause-run c = beside_update-runs

@@ -1,0 +1,9 @@
+pub mod WindowLaws
+pub mod ListedWindows
+pub mod WindowViews
+pub mod WindowReads
+pub mod WindowSteps
+pub mod PutBlocks
+pub mod NamedReads
+pub mod DegradedReads
+pub mod WindowStart
