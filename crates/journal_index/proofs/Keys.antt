@@ -1,18 +1,11 @@
 -- Which keys of a map are one, and what a map has at a key once another was put in.
-use Rattle.std.proofs.Common.{◌≡◌, ◌==◌, ◌&&◌, ℕ, Bool, true, false, cond, Option, Some, refl, ap, sym, ◌∙◌, ⊎_elim, arith, inl, inr, unwrap_or}
-use Rattle.std.proofs.lemmas.Bool.{cases_eq, cases_order, eq-eqb, ne_eqb, le-ltb, lt-ltb}
+use Rattle.std.proofs.Common.{◌≡◌, ◌==◌, ◌&&◌, ℕ, Bool, true, false, cond, Option, Some, refl, ap, sym, ◌∙◌, ⊎_elim, unwrap_or}
+use Rattle.std.proofs.lemmas.Bool.{cases_eq, ne_eqb}
 use Rattle.std.specs.Cmp.{tied_then}
 use Rattle.std.specs.Ordering.{nat_cmp, is_eq, ordering_then}
+pub use Rattle.dirty_list.proofs.Lookups.{tied-numbers}
 
--- two numbers compare as equal where they are one
-pub tied-numbers : (a b : ℕ) → is_eq (nat_cmp a b) ≡ (a == b)
-tied-numbers a b = elim (cases_order a b) [
-  | inl e ↦ rw (le-ltb a b (omega arith), eq-eqb a b e) refl
-  | inr (inl l) ↦ rw (lt-ltb a b l, ne_eqb a b (λ e. omega (arith, e, l))) refl
-  | inr (inr g) ↦ rw (le-ltb a b (omega arith), ne_eqb a b (λ e. omega (arith, e, g))) refl
-]
-
--- and two pairs of numbers
+-- two pairs of numbers compare as equal where they are one
 pub tied-pairs : (a b x y : ℕ) → is_eq (ordering_then (nat_cmp a x) (nat_cmp b y)) ≡ (a == x) && (b == y)
 tied-pairs a b x y =
     sym (tied_then (nat_cmp a x) (nat_cmp b y))

@@ -1,13 +1,12 @@
 -- How the list of dirty stripes goes over one more entry.
 use Rattle.std.specs.Prelude.{◌≡◌, ◌&&◌, ℕ, Bool, List, Option, Some, None, if◌then◌else◌}
-use Rattle.std.specs.Ordering.{nat_cmp}
-use Rattle.std.specs.BTreeSet.{contains}
+use Rattle.dirty_list.specs.Listings.{command_of}
 use Rattle.array_journal.specs.declared.entry.Entry.{Entry}
 use Rattle.array_journal.specs.declared.event.Event.{Event}
 use Rattle.array_journal.specs.declared.event.Event.TheVariants.{Close, Spoil}
 use Rattle.array_journal.specs.declared.task.Task.{Task}
 use Rattle.array_journal.specs.Commands.{task_of}
-use Rattle.array_journal.specs.Listed.{is_listed, makes_parity}
+use Rattle.array_journal.specs.Listed.{listed_for, makes_parity}
 use Rattle.journal_index.specs.declared.dirty.Change.{Change}
 use Rattle.journal_index.specs.declared.dirty.Change.TheVariants.{Lists, Clears, Nothing}
 use Rattle.journal_index.specs.declared.dirty.DirtyStripes.{DirtyStripes}
@@ -20,7 +19,7 @@ ended_task _ past = None
 
 -- what the end of a command with this task does to the list
 abbrev pub change_by : Event → Task → Change
-change_by (Spoil command diff loss shut) task = Lists task.stripe
+change_by (Spoil command diff loss shut) task = Lists task.stripe command
 change_by (Close command done names cause bytes) task = if done && makes_parity task.kind task then Clears task.stripe else Nothing
 change_by _ task = Nothing
 
@@ -29,6 +28,6 @@ abbrev pub change_of : Bool → Event → Option Task → Change
 change_of book event None = Nothing
 change_of book event (Some task) = if book then change_by event task else Nothing
 
--- what is kept are the stripes that are listed after these entries
+-- what is kept are the stripes that are listed after these entries, each with its command
 abbrev pub KeepsListed : List Entry → DirtyStripes → Type 0
-KeepsListed past m = (stripe : ℕ) → contains nat_cmp m.listed stripe ≡ is_listed stripe past
+KeepsListed past m = (stripe : ℕ) → command_of stripe m.listed ≡ listed_for stripe past

@@ -2,14 +2,7 @@ pub mod Keys
 pub mod Names
 pub mod Stamps
 pub mod Disks
-pub mod Slots
-pub mod CommandSteps
-pub mod Openings
-pub mod Endings
-pub mod Standings
-pub mod KnownCommands
-pub mod Deeds
-pub mod CommandDeeds
+pub mod ActsDone
+pub mod CommandActs
 pub mod Dirty
-pub mod Noted
 pub mod Indexes

@@ -3,33 +3,22 @@
 ghost use Rattle.std.specs.Prelude.{◌≡◌, ◌==◌, [], ◌∷◌, List, OnOk};
 ghost use Rattle.std.specs.Option.{option_copied};
 ghost use Rattle.array_journal.specs.declared.entry.Entry.{Entry};
-ghost use Rattle.array_journal.specs.Listed.{is_listed, makes_parity};
+ghost use Rattle.array_journal.specs.Listed.{is_listed};
 ghost use Rattle.journal_index.specs.Dirty.{KeepsListed, change_of, ended_task};
 
-use array_journal::{Entry, Event, Kind, Task};
+use array_journal::{Entry, Event, Task};
 use blocks_core::Memory;
+use dirty_list::DirtyList;
 use std::alloc::Global;
-use std::collections::BTreeSet;
 
 /// What an entry does to the list.
 #[derive(Clone, Copy, Debug, PartialEq, Eq)]
 enum Change {
-    /// It puts a stripe there.
-    Lists { stripe: u32 },
+    /// It puts a stripe there, for a command.
+    Lists { stripe: u32, command: u32 },
     /// It takes a stripe away.
     Clears { stripe: u32 },
     Nothing,
-}
-
-/// Whether a task makes the parity of its stripe anew.
-fn makes_parity(task: &Task) -> bool
-    ensures { result ≡ makes_parity task.now.kind task.now }
-{
-    match task.kind {
-        Kind::Resync => true,
-        Kind::Rebuild => task.target == task.parity,
-        _ => false,
-    }
 }
 
 /// What an entry does to the list, by the task of the command that it ends.
@@ -43,10 +32,11 @@ fn change_made(entry: &Entry, task: Option<&Task>) -> Change
         return Change::Nothing;
     }
     match &entry.event {
-        Event::Spoil { .. } => Change::Lists {
+        Event::Spoil { command, .. } => Change::Lists {
             stripe: task.stripe,
+            command: *command,
         },
-        Event::Close { done, .. } if *done && makes_parity(task) => Change::Clears {
+        Event::Close { done, .. } if *done && task.makes_parity() => Change::Clears {
             stripe: task.stripe,
         },
         _ => Change::Nothing,
@@ -56,7 +46,7 @@ fn change_made(entry: &Entry, task: Option<&Task>) -> Change
 /// The stripes whose parity can't be trusted.
 #[derive(Debug, Drop)]
 pub struct DirtyStripes {
-    listed: BTreeSet<u32>,
+    listed: DirtyList,
 }
 
 impl DirtyStripes {
@@ -65,14 +55,14 @@ impl DirtyStripes {
         ensures { KeepsListed [] result }
     {
         DirtyStripes {
-            listed: BTreeSet::new(alloc),
+            listed: DirtyList::new(alloc),
         }
     }
 
     pub fn is_listed(&self, stripe: u32) -> bool
         ensures { (past : List Entry) → KeepsListed past self.now → result ≡ is_listed stripe past }
     {
-        self.listed.contains(&stripe)
+        self.listed.find(stripe).is_some()
     }
 
     /// Takes one more entry in, with the task of the command that it ends.
@@ -80,11 +70,11 @@ impl DirtyStripes {
         ensures { OnOk result ((past : List Entry) → option_copied task.entry ≡ ended_task entry.now.event past → KeepsListed past self.old → KeepsListed (entry.now ∷ past) self.new) }
     {
         match change_made(entry, task) {
-            Change::Lists { stripe } => {
-                self.listed.insert(stripe)?;
+            Change::Lists { stripe, command } => {
+                self.listed.list(stripe, command)?;
             }
             Change::Clears { stripe } => {
-                self.listed.remove(&stripe);
+                self.listed.clear(stripe);
             }
             Change::Nothing => {}
         }

@@ -50,7 +50,8 @@ fn loss_after(entry: &Entry, old: Option<At>) -> Option<At>
     }
 }
 
-/// How many fresh disks came after an event.
+/// How many fresh disks came after an event. Each is an entry that lies in memory, so the count stays below
+/// 2^63 and doesn't saturate: a checked sum would need an answer for what can't come.
 fn life_after(event: &Event, life: usize) -> usize
     ensures { life < 9223372036854775808 → result ≡ life_after event.now life }
 {
@@ -60,7 +61,8 @@ fn life_after(event: &Event, life: usize) -> usize
     }
 }
 
-/// How many requests are to be dropped after an event, of so many before it.
+/// How many requests are to be dropped after an event, of so many before it. The sum doesn't saturate, as
+/// that of `life_after`.
 fn drops_after(event: &Event, count: usize) -> usize
     ensures { count < 9223372036854775808 → result ≡ drops_after event.now count }
 {

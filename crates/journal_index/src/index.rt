@@ -2,18 +2,16 @@
 
 ghost use Rattle.std.specs.Prelude.{◌≡◌, ◌<◌, [], ◌∷◌, OnOk, length, reverse};
 ghost use Rattle.std.specs.Option.{option_copied};
+ghost use Rattle.array_book.specs.BookStates.{KeepsBook};
 ghost use Rattle.journal_index.specs.Dirty.{ended_task};
 ghost use Rattle.journal_index.specs.Indexes.{IsIndexOf};
-ghost use Rattle.journal_index.specs.KnownCommands.{KeepsCommands};
 
-use crate::command_deeds::CommandDeeds;
-use crate::commands::Commands;
+use crate::command_acts::CommandActs;
 use crate::dirty::DirtyStripes;
 use crate::disks::Disks;
 use crate::names::Names;
-use crate::noted::NotedSlots;
-use crate::slots::Slots;
 use crate::stamps::Stamps;
+use array_book::BookState;
 use array_journal::{Entry, Event, Task};
 use blocks_core::Memory;
 use std::alloc::Global;
@@ -24,26 +22,25 @@ pub struct Index {
     pub(crate) names: Names,
     pub(crate) stamps: Stamps,
     pub(crate) disks: Disks,
-    pub(crate) slots: Slots,
-    pub(crate) commands: Commands,
-    pub(crate) deeds: CommandDeeds,
+    pub(crate) book: BookState,
+    pub(crate) acts: CommandActs,
     pub(crate) dirty: DirtyStripes,
-    pub(crate) noted: NotedSlots,
 }
 
 /// The task of the command that an event ends.
-fn ended_task<'a>(commands: &Commands, past: &'a [Entry], event: &Event) -> Option<&'a Task>
-    requires { KeepsCommands (reverse past.now) commands.now }
+fn ended_task<'a>(book: &BookState, past: &'a [Entry], event: &Event) -> Option<&'a Task>
+    requires { KeepsBook (reverse past.now) book.now }
     ensures { option_copied result ≡ ended_task event.now (reverse past.now) }
 {
     match event {
-        Event::Close { command, .. } => commands.task_of(past, *command),
-        Event::Spoil { command, .. } => commands.task_of(past, *command),
+        Event::Close { command, .. } => book.task_of(past, *command),
+        Event::Spoil { command, .. } => book.task_of(past, *command),
         _ => None,
     }
 }
 
-/// The place of the entry after these.
+/// The place of the entry after these: a function of its own for the second clause, as entries that lie in
+/// memory are fewer than 2^63.
 fn place_after(past: &[Entry]) -> usize
     ensures place { result ≡ length past.now }
     ensures small { result < 9223372036854775808 }
@@ -60,11 +57,9 @@ impl Index {
             names: Names::new(alloc),
             stamps: Stamps::new(alloc),
             disks: Disks::new(alloc),
-            slots: Slots::new(alloc),
-            commands: Commands::new(alloc),
-            deeds: CommandDeeds::new(alloc),
+            book: BookState::new(alloc),
+            acts: CommandActs::new(alloc),
             dirty: DirtyStripes::new(alloc),
-            noted: NotedSlots::new(alloc),
         }
     }
 
@@ -75,16 +70,14 @@ impl Index {
         requires { IsIndexOf (reverse past.now) self.old }
         ensures { OnOk result (IsIndexOf (entry.now ∷ reverse past.now) self.new) }
     {
-        let ended = ended_task(&self.commands, past, &entry.event);
+        let ended = ended_task(&self.book, past, &entry.event);
         let place = place_after(past);
         self.dirty.add(entry, ended)?;
         self.names.add(place, entry)?;
         self.stamps.add(entry)?;
         self.disks.add(entry)?;
-        self.slots.add(alloc, entry)?;
-        self.commands.add(place, entry)?;
-        self.deeds.add(entry)?;
-        self.noted.add(alloc, entry)?;
+        self.book.add(alloc, place, entry)?;
+        self.acts.add(entry)?;
         Ok(())
     }
 }

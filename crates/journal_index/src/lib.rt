@@ -4,20 +4,15 @@
 //! opened since its slot was noted.
 #![tactic(auto)]
 
-mod command_deeds;
-mod commands;
-mod deeds;
+mod acts_done;
+mod command_acts;
 mod dirty;
 mod disks;
 mod index;
-mod missing;
 mod names;
-mod noted;
 mod past;
-mod slots;
 mod stamps;
 
-pub use deeds::Deeds;
+pub use acts_done::ActsDone;
 pub use index::Index;
-pub use missing::units_are_missing_by_rebuilds;
 pub use past::Past;

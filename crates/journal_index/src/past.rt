@@ -1,22 +1,25 @@
 //! The entries so far, with their index.
 
-ghost use Rattle.std.specs.Prelude.{◌≡◌, ◌+◌, ◌<◌, length, option_map, reverse, slice_get};
-ghost use Rattle.std.specs.List.{list_any};
+ghost use Rattle.std.specs.Prelude.{◌≡◌, ◌+◌, ◌<◌, is_some, length, reverse, slice_get};
 ghost use Rattle.std.specs.Option.{option_copied};
-ghost use Rattle.array_journal.specs.Commands.{open_count, is_open, task_of};
+ghost use Rattle.array_journal.specs.Commands.{open_count, is_open, task_of, tasks_conflict};
+ghost use Rattle.array_journal.specs.Decision.{opens_conflict, has_room};
 ghost use Rattle.array_journal.specs.Entries.{entry_at, some_at, count_before, stamps_below};
 ghost use Rattle.array_journal.specs.Listed.{is_listed};
-ghost use Rattle.array_journal.specs.Lives.{loss_of, is_gone, life_of, swap_count, is_unfitted, is_missing, is_swap_of, closes_done, has_rebuilt, rebuilds};
+ghost use Rattle.array_journal.specs.Lives.{loss_of, is_gone, life_of, swap_count, is_unfitted, is_missing, is_swap_of, closes_done};
 ghost use Rattle.array_journal.specs.May.{swapped_since};
 ghost use Rattle.array_journal.specs.Media.{drops};
-ghost use Rattle.journal_index.specs.Deeds.{deeds_of};
+ghost use Rattle.array_journal.specs.Run.{IsSetting};
+ghost use Rattle.array_book.specs.Decisions.{facts_of};
+ghost use Rattle.array_book.specs.OpenCommands.{open_tasks};
+ghost use Rattle.array_book.specs.OpenTasks.{first_open};
+ghost use Rattle.journal_index.specs.ActsDone.{acts_done};
 ghost use Rattle.journal_index.specs.Indexes.{IsIndexOf};
-ghost use Rattle.journal_index.specs.Noted.{missing_by};
-ghost use Rattle.journal_index.specs.Standings.{standing_tasks};
 
-use crate::deeds::Deeds;
+use crate::acts_done::ActsDone;
 use crate::index::Index;
-use array_journal::{At, Entry, Event, Kind, Task};
+use array_book::Facts;
+use array_journal::{At, Entry, Event, Setting, Task};
 use std::marker::Model;
 
 /// The entries so far, the oldest first, with their index.
@@ -36,20 +39,6 @@ impl<'a> Model for Past<'a> {
     ghost view = { λ p. p.entries.now };
 
     ghost invariant = { λ p. IsIndexOf (reverse p.entries.now) p.index.now };
-}
-
-/// Whether a task is to rebuild a target's unit of a stripe.
-fn rebuilds(task: Option<&Task>, target: usize, stripe: u32) -> bool
-    ensures { result ≡ rebuilds target stripe (option_copied task.entry) }
-{
-    match task {
-        Some(task) => {
-            matches!(task.kind, Kind::Rebuild)
-                && usize::from(task.target) == target
-                && task.stripe == stripe
-        }
-        None => false,
-    }
 }
 
 impl<'a> Past<'a> {
@@ -86,50 +75,50 @@ impl<'a> Past<'a> {
     pub fn open_count(&self) -> usize
         ensures { result ≡ open_count (reverse self.now) }
     {
-        self.index.commands.open_count()
+        self.index.book.open_count()
     }
 
     /// Whether a command was opened and not ended.
     pub fn is_open(&self, command: u32) -> bool
         ensures { result ≡ is_open command (reverse self.now) }
     {
-        self.index.commands.is_open(command)
+        self.index.book.is_open(command)
     }
 
     /// The task of a command, that of its opening.
     pub fn task_of(&self, command: u32) -> Option<&'a Task>
         ensures { option_copied result ≡ task_of command (reverse self.now) }
     {
-        self.index.commands.task_of(self.entries, command)
+        self.index.book.task_of(self.entries, command)
     }
 
     /// Whether a command is closed as done.
     pub fn closes_done(&self, command: u32) -> bool
         ensures { result ≡ some_at 0 (closes_done command) (reverse self.now) }
     {
-        self.index.commands.closes_done(command)
+        self.index.book.closes_done(command)
     }
 
     /// How many openings have their command open.
-    pub fn standing_len(&self) -> usize
-        ensures { result ≡ length (standing_tasks (reverse self.now)) }
+    pub fn open_len(&self) -> usize
+        ensures { result ≡ length (open_tasks (reverse self.now)) }
     {
-        self.index.commands.standing_len()
+        self.index.book.open_len()
     }
 
     /// The task of an opening whose command is open. The place counts these openings from 0, the oldest
     /// first; there is none behind the last.
-    pub fn standing(&self, place: usize) -> Option<&'a Task>
-        ensures { option_copied result ≡ slice_get (standing_tasks (reverse self.now)) place }
+    pub fn open_task(&self, place: usize) -> Option<&'a Task>
+        ensures { option_copied result ≡ slice_get (open_tasks (reverse self.now)) place }
     {
-        self.index.commands.standing(self.entries, place)
+        self.index.book.open_task(self.entries, place)
     }
 
     /// What a command did under a lock.
-    pub fn deeds(&self, lock: u8, command: u32) -> Deeds
-        ensures { result ≡ deeds_of lock command (reverse self.now) }
+    pub fn acts_done(&self, lock: u8, command: u32) -> ActsDone
+        ensures { result ≡ acts_done lock command (reverse self.now) }
     {
-        self.index.deeds.deeds(lock, command)
+        self.index.acts.acts_done(lock, command)
     }
 
     /// The newest loss of a target, where no fresh disk came after it.
@@ -176,21 +165,21 @@ impl<'a> Past<'a> {
     pub fn swap_count(&self, slot: usize) -> usize
         ensures { result ≡ swap_count slot (reverse self.now) }
     {
-        self.index.slots.swap_count(slot)
+        self.index.book.swap_count(slot)
     }
 
     /// Whether the newest note or swap of a slot is a note.
     pub fn is_unfitted(&self, slot: usize) -> bool
         ensures { result ≡ is_unfitted slot (reverse self.now) }
     {
-        self.index.slots.is_unfitted(slot)
+        self.index.book.is_unfitted(slot)
     }
 
     /// How often the book swapped a slot's disk before a stamp.
     pub fn swaps_before(&self, slot: usize, stamp: u64) -> usize
         ensures { result ≡ count_before 0 (is_swap_of slot) stamp (reverse self.now) }
     {
-        self.index.slots.swaps_before(slot, stamp)
+        self.index.book.swaps_before(slot, stamp)
     }
 
     /// Whether a stripe is listed.
@@ -200,43 +189,35 @@ impl<'a> Past<'a> {
         self.index.dirty.is_listed(stripe)
     }
 
-    /// Whether a command rebuilt a unit and is closed as done.
-    fn has_rebuilt(&self, target: usize, stripe: u32, command: u32) -> bool
-        ensures { result ≡ has_rebuilt (reverse self.now) target stripe command }
-    {
-        rebuilds(self.task_of(command), target, stripe) && self.closes_done(command)
-    }
-
-    /// Whether some command did.
-    fn is_any_rebuilt(&self, target: usize, stripe: u32, commands: &[u32]) -> bool
-        ensures { result ≡ list_any (has_rebuilt (reverse self.now) target stripe) commands.now }
-    {
-        for command in commands {
-            if self.has_rebuilt(target, stripe, *command) {
-                return true;
-            }
-        }
-        false
-    }
-
-    /// Whether a unit is missing, by the commands that were opened to rebuild it since its slot was noted.
-    fn is_missing_after(&self, target: usize, stripe: u32, opened: Option<&[u32]>) -> bool
-        ensures { result ≡ missing_by (has_rebuilt (reverse self.now) target stripe) (option_map (λ s. s.now) opened.entry) }
-    {
-        match opened {
-            Some(commands) => !self.is_any_rebuilt(target, stripe, commands),
-            None => false,
-        }
-    }
-
     /// Whether the book knows that a target's disk was lost, and of no rebuild of its unit since.
     pub fn is_missing(&self, target: usize, stripe: u32) -> bool
         ensures { result ≡ is_missing target stripe (reverse self.now) }
     {
-        self.is_missing_after(
-            target,
-            stripe,
-            self.index.noted.opened_since(target, stripe),
-        )
+        self.index.book.is_missing(self.entries, target, stripe)
+    }
+    /// The facts on which the book decides a piece at a target of a stripe.
+    pub fn facts(&self, setting: &Setting, stripe: u32, target: usize) -> Facts
+        requires { IsSetting setting.now }
+        ensures { result ≡ facts_of setting.now stripe target (reverse self.now) }
+    {
+        let listed = self.is_listed(stripe);
+        self.index
+            .book
+            .facts(setting, self.entries, listed, stripe, target)
+    }
+
+    /// The open command that a task conflicts with, of several the one that was opened first.
+    pub fn first_in_way(&self, task: &Task) -> Option<u32>
+        ensures found { is_some result ≡ some_at 0 (opens_conflict (reverse self.now) task.now) (reverse self.now) }
+        ensures first { result ≡ first_open (tasks_conflict task.now) (reverse self.now) }
+    {
+        self.index.book.first_in_way(self.entries, task)
+    }
+
+    /// Whether the buffer has room for what a command of a task will hold.
+    pub fn has_room(&self, setting: &Setting, task: &Task) -> bool
+        ensures { result ≡ has_room setting.now task.now (reverse self.now) }
+    {
+        self.index.book.has_room(setting, self.entries, task)
     }
 }

@@ -11,9 +11,7 @@ returns c =
       names = c.in_ok-add-2.ensures past here c.requires.names;
       stamps = c.in_ok-add-3.ensures past c.requires.stamps;
       disks = c.in_ok-add-4.ensures past short c.requires.disks;
-      slots = c.in_ok-add-5.ensures past c.requires.slots;
-      commands = c.in_ok-add-6.ensures past here c.requires.commands;
-      deeds = c.in_ok-add-7.ensures past c.requires.deeds;
+      book = c.in_ok-add-5.ensures past here c.requires.book;
+      acts = c.in_ok-add-6.ensures past c.requires.acts;
       dirty = c.in_ok-add.ensures past c.ended_task-ended.ensures c.requires.dirty;
-      noted = c.in_ok-add-8.ensures past c.requires.noted;
     }

@@ -1,0 +1,17 @@
+-- What an entry does to commands: it opens one, ends one, or does neither.
+use Rattle.std.specs.Prelude.{◌==◌, false, if◌then◌else◌}
+use Rattle.array_journal.specs.declared.entry.Entry.{Entry}
+use Rattle.array_journal.specs.declared.event.Event.{Event}
+use Rattle.array_journal.specs.declared.event.Event.TheVariants as events
+use Rattle.array_book.specs.declared.commands.steps.CommandStep.{CommandStep}
+use Rattle.array_book.specs.declared.commands.steps.CommandStep.TheVariants.{Opens, Ends, Neither}
+
+abbrev pub step_by : Event → CommandStep
+step_by (events.Open command task) = Opens command
+step_by (events.Close command done names cause bytes) = Ends command done
+step_by (events.Spoil command diff loss shut) = Ends command false
+step_by _ = Neither
+
+-- only entries of the book open and end commands
+abbrev pub step_of : Entry → CommandStep
+step_of e = if e.lock == 0 then step_by e.event else Neither

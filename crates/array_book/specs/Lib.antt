@@ -1,0 +1,10 @@
+pub mod Slots
+pub mod CommandSteps
+pub mod Openings
+pub mod Endings
+pub mod OpenCommands
+pub mod KnownCommands
+pub mod Noted
+pub mod OpenTasks
+pub mod BookStates
+pub mod Decisions

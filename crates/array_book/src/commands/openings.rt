@@ -1,0 +1,56 @@
+//! Where the opening of each command stands.
+
+ghost use Rattle.std.specs.Prelude.{◌≡◌, ◌==◌, ◌+◌, ℕ, OnOk, [], Some, if◌then◌else◌};
+ghost use Rattle.std.specs.BTreeMap.{get};
+ghost use Rattle.std.specs.Ordering.{nat_cmp};
+ghost use Rattle.array_book.specs.Openings.{KeepsOpenings};
+
+use blocks_core::Memory;
+use std::alloc::Global;
+use std::collections::BTreeMap;
+
+/// The place of the newest opening of each command, and how many openings there are.
+#[derive(Debug, Drop)]
+pub struct Openings {
+    places: BTreeMap<u32, usize>,
+    count: usize,
+}
+
+impl Openings {
+    /// No openings. Takes no memory.
+    pub fn new(alloc: Global) -> Openings
+        ensures { KeepsOpenings [] result }
+    {
+        Openings {
+            places: BTreeMap::new(alloc),
+            count: 0,
+        }
+    }
+
+    /// One more opening, at a place.
+    pub fn add(&mut self, command: u32, place: usize) -> Result<(), Memory>
+        ensures places { OnOk result ((c : ℕ) → get nat_cmp self.new.places c ≡ (if command == c then Some place else get nat_cmp self.old.places c)) }
+        ensures count { OnOk result (self.new.count ≡ self.old.count + 1) }
+    {
+        // More openings than a usize counts don't lie in memory: so the answer is want of memory, and no
+        // condition on each caller.
+        let count = self.count.checked_add(1).ok_or(Memory)?;
+        self.places.insert(command, place)?;
+        self.count = count;
+        Ok(())
+    }
+
+    /// Where the newest opening of a command stands.
+    pub fn place_of(&self, command: u32) -> Option<usize>
+        ensures { result ≡ get nat_cmp self.now.places command }
+    {
+        self.places.get(&command).copied()
+    }
+
+    /// How many openings there are.
+    pub fn count(&self) -> usize
+        ensures { result ≡ self.now.count }
+    {
+        self.count
+    }
+}

@@ -1,6 +1,0 @@
-use Rattle.std.proofs.Common.{rules, ◌==◌, not}
-use Rattle.std.proofs.lemmas.Fn.{filter_same}
-use Rattle.journal_index.proofs.commands.standings.Standings.end.Goals as goal
-
-pub returns : goal.returns
-returns c = filter_same _ (λ s. not (s.command == c.args.command)) _ (λ s b f called. search rules) _ _ c.retain.ensures.filtered

@@ -1,8 +1,0 @@
-use Rattle.std.proofs.Common.{◌≡◌, drop, reverse}
-use Rattle.std.specs.List.{list_any}
-use Rattle.array_journal.specs.Lives.{has_rebuilt}
-use Rattle.journal_index.proofs.past.Past.is_any_rebuilt.Given as goal
-
-abbrev pub invariant-loop-command : goal.invariant-loop-command
-invariant-loop-command l =
-    list_any (has_rebuilt (reverse l.self) l.target l.stripe) l.commands ≡ list_any (has_rebuilt (reverse l.self) l.target l.stripe) (drop l.command-index l.commands)
