@@ -11,12 +11,14 @@ use Rattle.host_scripts.specs.declared.script.Script.{Script}
 use Rattle.host_scripts.specs.declared.script.Call.{Call}
 use Rattle.host_scripts.specs.declared.script.Action.{Action}
 use Rattle.host_scripts.specs.declared.script.Action.TheVariants.{Read, Write, Fill, Raw, Lose, Reset, DropNext, Replace, Rebuild, Resync}
-use Rattle.host_scripts.specs.Scripts.{line, numeral, letter, mode_text, call_text, order_texts, script_lines, spelling, IsMaximum, IsAction, IsScript, Spells}
-use Rattle.host_scripts.specs.Words.{stripped}
+use Rattle.text_fields.specs.Spelling.{line, numeral}
+use Rattle.host_scripts.specs.Scripts.{letter, mode_text, call_text, order_texts, script_lines, spelling, IsMaximum, IsAction, IsScript, Spells}
+use Rattle.text_fields.specs.Reading.{stripped}
 use Rattle.host_scripts.specs.Loose.{exact_of, number_of, maxima_of, mode_of, order_of, call_of}
 use Rattle.host_scripts.specs.Reading.{Fault, any, within, line_at, number_at, is_maximum, are_maxima, geometry_at, targets_at, hosts_at, Head, head_at, are_turns, order_at, is_ranged, is_sized, is_ranged_call, is_sized_call, call_at, calls_at, first_line, script_at}
 use Rattle.host_scripts.specs.Refusals.{IsFormedAction, IsFormedCall}
-use Rattle.host_scripts.proofs.Parts.{lacks, stripped-again}
+use Rattle.text_fields.specs.Laws.{lacks}
+use Rattle.text_fields.proofs.Cuts.{stripped-again}
 use Rattle.host_scripts.proofs.Rules.{line-again}
 use Rattle.host_scripts.proofs.Texts.{cap, kept_maxima, maxima_line, version_rule, number_rule, maxima_rule, mode_rule, order_rule}
 use Rattle.host_scripts.proofs.CallTexts.{kept_action, kept_call, call_rule}

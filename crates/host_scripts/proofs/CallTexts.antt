@@ -8,112 +8,17 @@ use Rattle.host_scripts.specs.declared.script.Action.{Action}
 use Rattle.host_scripts.specs.declared.script.Action.TheVariants.{Read, Write, Fill, Raw, Lose, Reset, DropNext, Replace, Rebuild, Resync}
 use Rattle.host_scripts.specs.declared.actions.Operation.{Operation}
 use Rattle.host_scripts.specs.declared.actions.Operation.TheVariants.{Losing, Resetting, Dropping, Replacing, Rebuilding}
-use Rattle.host_scripts.specs.Scripts.{AreBytes, numeral, nibble, hex, hex_or_dash, letter, action_text, call_text}
-use Rattle.host_scripts.specs.Words.{◌>>=◌, cut_at, stripped, numeral_of, nibble_of, byte_of, hex_at, filled_of, data_of, one_byte_of}
-use Rattle.host_scripts.specs.Loose.{exact_of, is_letter, addressed_of, two_of, read_of, write_of, fill_of, raw_of, on_target, target_of, after_of, operation_at, operator_of, else_of, action_of, called, call_of}
+use Rattle.text_fields.specs.Spelling.{AreBytes, numeral, hex, hex_or_dash}
+use Rattle.host_scripts.specs.Scripts.{letter, action_text, call_text}
+use Rattle.text_fields.specs.Reading.{◌>>=◌, cut_at, stripped, filled_of, data_of, one_byte_of}
+use Rattle.host_scripts.specs.Loose.{numeral_of, exact_of, is_letter, addressed_of, two_of, read_of, write_of, fill_of, raw_of, on_target, target_of, after_of, operation_at, operator_of, else_of, action_of, called, call_of}
 use Rattle.host_scripts.specs.Refusals.{IsFormedAction, IsFormedCall}
-use Rattle.host_scripts.proofs.NumeralLaws.{numeral-takes, numeral-again}
-use Rattle.host_scripts.proofs.Parts.{bind-some, lacks, lacks-append, numeral-lacks, cut-takes, cut-again, stripped-takes, stripped-again}
+use Rattle.text_fields.proofs.Cuts.{bind-some, lacks-append, cut-takes, cut-again, stripped-takes, stripped-again}
+use Rattle.text_fields.specs.Laws.{lacks}
+use Rattle.text_fields.proofs.NumeralLaws.{numeral-lacks}
+use Rattle.text_fields.proofs.HexLaws.{hex-lacks, data-takes, data-again, filled-takes, filled-again, one-byte-takes, one-byte-again}
 use Rattle.host_scripts.proofs.Rules.{Says, IsRule}
-use Rattle.host_scripts.proofs.Texts.{cap, spaced_same, exact-takes}
-
--- ---- hexadecimal
-
-nibble-takes : (c n : ℕ) → nibble_of c ≡ Some n → (c ≡ nibble n) × (n < 16)
-nibble-takes c n e = grind (arith, nat_tests)
-
-nibble-again : (n : ℕ) → n < 16 → nibble_of (nibble n) ≡ Some n
-nibble-again n lt = grind (arith, nat_tests)
-
-byte-takes : (high low b : ℕ) → byte_of high low ≡ Some b → (high ≡ nibble (b / 16)) × (low ≡ nibble (b % 16)) × (b < 256)
-unfolding byte_of
-byte-takes high low b e =
-    let h = bind-some (nibble_of high) (λ h. nibble_of low >>= λ l. Some (h * 16 + l)) b e in
-    let l = bind-some (nibble_of low) (λ l. Some (h.0 * 16 + l)) b h.2 in
-    let same : h.0 * 16 + l.0 ≡ b = same_Some (h.0 * 16 + l.0) b l.2 in
-    let x = nibble-takes high h.0 h.1 in
-    let y = nibble-takes low l.0 l.1 in
-    let q : h.0 ≡ b / 16 = omega (arith, same, x.1, y.1) in
-    let r : l.0 ≡ b % 16 = omega (arith, same, x.1, y.1) in
-    (x.0 ∙ ap nibble q, y.0 ∙ ap nibble r, omega (arith, same, x.1, y.1))
-
-byte-again : (b : ℕ) → b < 256 → byte_of (nibble (b / 16)) (nibble (b % 16)) ≡ Some b
-unfolding byte_of
-byte-again b lt =
-    let q : b / 16 < 16 = omega arith in
-    let r : b % 16 < 16 = omega arith in
-    let same : b / 16 * 16 + b % 16 ≡ b = omega arith in
-    rw (nibble-again (b / 16) q, nibble-again (b % 16) r) (ap (λ (k : ℕ). Some k) same)
-
-hex-joined : (high low b : ℕ) (rest bytes : List ℕ) → high ≡ nibble (b / 16) → low ≡ nibble (b % 16) → rest ≡ hex bytes → high ∷ low ∷ rest ≡ hex (b ∷ bytes)
-hex-joined high low b rest bytes h l r = rw (h, l, r) refl
-
-pub hex-takes : (text bytes : List ℕ) → hex_at text ≡ Some bytes → (text ≡ hex bytes) × AreBytes bytes
-unfolding hex_at
-hex-takes [] bytes e = subst (λ (bs : List ℕ). ([] ≡ hex bs) × AreBytes bs) (same_Some [] bytes e) (refl, tt)
-hex-takes (c ∷ []) bytes e = absurd cc
-hex-takes (high ∷ low ∷ rest) bytes e =
-    let x = bind-some (byte_of high low) (λ byte. hex_at rest >>= λ bytes. Some (byte ∷ bytes)) bytes e in
-    let y = bind-some (hex_at rest) (λ bytes. Some (x.0 ∷ bytes)) bytes x.2 in
-    let b = byte-takes high low x.0 x.1 in
-    let bs = hex-takes rest y.0 y.1 in
-    let all : high ∷ low ∷ rest ≡ hex (x.0 ∷ y.0) = hex-joined high low x.0 rest y.0 b.0 b.1 bs.0 in
-    subst (λ (k : List ℕ). (high ∷ low ∷ rest ≡ hex k) × AreBytes k) (same_Some (x.0 ∷ y.0) bytes y.2) (all, (b.2, bs.1))
-
-pub hex-again : (bytes : List ℕ) → AreBytes bytes → hex_at (hex bytes) ≡ Some bytes
-unfolding hex_at
-hex-again [] h = refl
-hex-again (b ∷ bytes) h = rw (byte-again b h.0, hex-again bytes h.1) refl
-
-hex-lacks : (mark : ℕ) (bytes : List ℕ) → mark < 48 → AreBytes bytes → lacks mark (hex bytes) ≡ true
-hex-lacks mark [] lt h = refl
-hex-lacks mark (b ∷ bytes) lt h =
-    let others = hex-lacks mark bytes lt h.1 in
-    grind (arith, nat_tests, others)
-
-data-takes : (text bytes : List ℕ) → data_of text ≡ Some bytes → (text ≡ hex_or_dash bytes) × AreBytes bytes
-unfolding data_of
-data-takes [] bytes e = absurd cc
-data-takes (c ∷ []) bytes e =
-    let g = cond_some (c == 45) [] bytes e in
-    let dash : c ≡ 45 = grind (arith, nat_tests, g.0) in
-    subst (λ (bs : List ℕ). (c ∷ [] ≡ hex_or_dash bs) × AreBytes bs) g.1 (ap (λ (k : ℕ). k ∷ []) dash, tt)
-data-takes (c ∷ d ∷ rest) bytes e = filled bytes (hex-takes (c ∷ d ∷ rest) bytes e)
-  where
-    filled : (bs : List ℕ) → (c ∷ d ∷ rest ≡ hex bs) × AreBytes bs → (c ∷ d ∷ rest ≡ hex_or_dash bs) × AreBytes bs
-    filled [] h = absurd cc
-    filled (b ∷ bs) h = h
-
-data-again : (bytes : List ℕ) → AreBytes bytes → data_of (hex_or_dash bytes) ≡ Some bytes
-unfolding data_of
-data-again [] h = refl
-data-again (b ∷ bytes) h = hex-again (b ∷ bytes) h
-
--- at least one byte
-filled-takes : (text bytes : List ℕ) → filled_of text ≡ Some bytes → (text ≡ hex bytes) × AreBytes bytes × (1 ≤ length bytes)
-unfolding filled_of
-filled-takes [] bytes e = absurd cc
-filled-takes (c ∷ text) bytes e = some-byte bytes (hex-takes (c ∷ text) bytes e)
-  where
-    some-byte : (bs : List ℕ) → (c ∷ text ≡ hex bs) × AreBytes bs → (c ∷ text ≡ hex bs) × AreBytes bs × (1 ≤ length bs)
-    some-byte [] h = absurd cc
-    some-byte (b ∷ bs) h = (h.0, h.1, omega arith)
-
-filled-again : (bytes : List ℕ) → AreBytes bytes → 1 ≤ length bytes → filled_of (hex bytes) ≡ Some bytes
-unfolding filled_of
-filled-again [] h lt = let no : ⊥ = omega arith in absurd no
-filled-again (b ∷ bytes) h lt = hex-again (b ∷ bytes) h
-
-one-byte-takes : (text : List ℕ) (b : ℕ) → one_byte_of text ≡ Some b → (text ≡ hex (b ∷ [])) × (b < 256)
-unfolding one_byte_of
-one-byte-takes [] b e = absurd cc
-one-byte-takes (c ∷ []) b e = absurd cc
-one-byte-takes (c ∷ d ∷ []) b e = let t = byte-takes c d b e in (rw (t.0, t.1) refl, t.2)
-one-byte-takes (c ∷ d ∷ f ∷ text) b e = absurd cc
-
-one-byte-again : (b : ℕ) → b < 256 → one_byte_of (hex (b ∷ [])) ≡ Some b
-unfolding one_byte_of
-one-byte-again b lt = byte-again b lt
+use Rattle.host_scripts.proofs.Texts.{cap, numeral-takes, numeral-again, spaced_same, exact-takes}
 
 -- ---- actions
 

@@ -13,13 +13,14 @@ use Rattle.host_scripts.specs.declared.script.Call.{Call}
 use Rattle.host_scripts.specs.declared.script.Action.{Action}
 use Rattle.host_scripts.specs.declared.script.Action.TheVariants.{Read, Write, Fill, Raw, Lose, Reset, DropNext, Replace, Rebuild, Resync}
 use Rattle.host_scripts.specs.declared.script.Cause.TheVariants.{Size}
-use Rattle.host_scripts.specs.Scripts.{line, letter, call_text, order_texts, script_lines, IsAction, IsCall, IsScript}
-use Rattle.host_scripts.specs.Words.{stripped}
+use Rattle.text_fields.specs.Spelling.{line}
+use Rattle.host_scripts.specs.Scripts.{letter, call_text, order_texts, script_lines, IsAction, IsCall, IsScript}
+use Rattle.text_fields.specs.Reading.{stripped}
 use Rattle.host_scripts.specs.Loose.{order_of, call_of}
 use Rattle.host_scripts.specs.Reading.{Head, any, line_at, are_turns, where_given, order_at, is_ranged, is_sized, is_ranged_call, is_sized_call, call_at, calls_at}
 use Rattle.host_scripts.specs.Refusals.{IsFormedAction, IsFormedCall, IsFormed, IsRangedAction, IsRangedCall, IsRanged, Begins, IsCause}
 use Rattle.host_scripts.proofs.Outcomes.{Outcome, then}
-use Rattle.host_scripts.proofs.Parts.{stripped-again}
+use Rattle.text_fields.proofs.Cuts.{stripped-again}
 use Rattle.host_scripts.proofs.Rules.{LineBad}
 use Rattle.host_scripts.proofs.Texts.{cap, order_rule}
 use Rattle.host_scripts.proofs.CallTexts.{kept_action, kept_call, call_rule}

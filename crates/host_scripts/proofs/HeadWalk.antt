@@ -11,7 +11,8 @@ use Rattle.stripe_layout.specs.declared.mode.Mode.{Mode}
 use Rattle.stripe_layout.specs.declared.mode.Mode.TheVariants.{Supervised}
 use Rattle.host_scripts.specs.declared.script.Script.{Script}
 use Rattle.host_scripts.specs.declared.script.Call.{Call}
-use Rattle.host_scripts.specs.Scripts.{line, mode_text, script_lines, IsMaximum, IsScript}
+use Rattle.text_fields.specs.Spelling.{line}
+use Rattle.host_scripts.specs.Scripts.{mode_text, script_lines, IsMaximum, IsScript}
 use Rattle.host_scripts.specs.Loose.{exact_of, maxima_of, mode_of}
 use Rattle.host_scripts.specs.Reading.{any, is_maximum, are_maxima, line_at, number_at, geometry_at, targets_at, hosts_at, Head, head_at}
 use Rattle.host_scripts.specs.Refusals.{IsFormed, Begins}

@@ -1,6 +1,3 @@
-pub mod Numerals
-pub mod NumeralLaws
-pub mod Parts
 pub mod Loops
 pub mod Turns
 pub mod Outcomes

@@ -1,4 +1,4 @@
--- Reading pairs of digits, and call lines, one after the other, as a loop does.
+-- Reading call lines one after the other, as a loop does.
 use Rattle.std.proofs.Common.{◌≡◌, ℕ, zero, suc, ◌-◌, ◌+◌, ◌≤◌, ◌<◌, ◌==◌, Bool, true, false, List, [], ◌∷◌, ◌++◌, length, get_or, take, drop, Option, Some, None, Result, Ok, Err, refl, sym, ap, ◌∙◌, append_assoc, length-append, arith}
 use Rattle.std.proofs.lemmas.Bool.Decides.{nat_tests}
 use Rattle.std.proofs.lemmas.List.{append-nil, take_all}
@@ -6,20 +6,10 @@ use Rattle.stripe_layout.specs.declared.geometry.Geometry.{Geometry}
 use Rattle.host_scripts.specs.declared.script.Call.{Call}
 use Rattle.host_scripts.specs.declared.script.ScriptFault.{ScriptFault}
 use Rattle.host_scripts.specs.declared.script.ScriptFault.TheVariants as faults
-use Rattle.host_scripts.specs.Words.{byte_of, hex_at, cut_at}
-use Rattle.host_scripts.specs.Words as words
+use Rattle.text_fields.specs.Reading.{cut_at}
 use Rattle.host_scripts.specs.Loose.{call_of}
 use Rattle.host_scripts.specs.Reading.{◌>>=◌, Fault, Fails, ended, judged, next_at, line_at, is_ranged_call, is_sized_call, call_at, calls_at}
-use Rattle.host_scripts.proofs.Parts.{cut-takes}
-
--- what was read before, and what is still read
-abbrev pub with_front : {A : Type 0} → List A → Option (List A) → Option (List A)
-with_front front None = None
-with_front front (Some more) = Some (front ++ more)
-
-pair-regroup : (front : List ℕ) (x : ℕ) (read : Option (List ℕ)) → with_front front (words.◌>>=◌ read (λ more. Some (x ∷ more))) ≡ with_front (front ++ x ∷ []) read
-pair-regroup front x (Some more) = ap (λ (xs : List ℕ). Some xs) (simp append_assoc)
-pair-regroup front x None = refl
+use Rattle.text_fields.proofs.Cuts.{cut-takes}
 
 -- what a test for emptiness says
 pub is-empty : (n : ℕ) (b : Bool) → b ≡ (n == 0) → b ≡ true → n ≡ 0
@@ -27,40 +17,6 @@ is-empty n b e h = grind (arith, nat_tests)
 
 pub is-filled : (n : ℕ) (b : Bool) → b ≡ (n == 0) → b ≡ false → 0 < n
 is-filled n b e h = grind (arith, nat_tests)
-
--- ---- pairs of digits
-
-pair-behind : (h l : ℕ) (more : List ℕ) → take (length (h ∷ l ∷ more) - 2) (drop 2 (h ∷ l ∷ more)) ≡ more
-pair-behind h l more = take_all _ more (omega arith)
-
-pub pair-read : (front rest : List ℕ) (byte : ℕ) (total : Option (List ℕ)) → 2 ≤ length rest → byte_of (get_or rest 0 0) (get_or rest 1 0) ≡ Some byte
-    → with_front front (hex_at rest) ≡ total → with_front (front ++ byte ∷ []) (hex_at (take (length rest - 2) (drop 2 rest))) ≡ total
-unfolding hex_at
-pair-read front [] byte total long h so_far = let no : ⊥ = omega arith in absurd no
-pair-read front (d ∷ []) byte total long h so_far = let no : ⊥ = omega arith in absurd no
-pair-read front (high ∷ low ∷ more) byte total long h so_far =
-    let one : with_front front (hex_at (high ∷ low ∷ more)) ≡ with_front (front ++ byte ∷ []) (hex_at more) = rw h (pair-regroup front byte (hex_at more)) in
-    rw (pair-behind high low more) (sym one ∙ so_far)
-
-pub pair-broken : (front rest : List ℕ) (total : Option (List ℕ)) → 2 ≤ length rest → byte_of (get_or rest 0 0) (get_or rest 1 0) ≡ None
-    → with_front front (hex_at rest) ≡ total → total ≡ None
-unfolding hex_at
-pair-broken front [] total long h so_far = let no : ⊥ = omega arith in absurd no
-pair-broken front (d ∷ []) total long h so_far = let no : ⊥ = omega arith in absurd no
-pair-broken front (high ∷ low ∷ more) total long h so_far =
-    let one : with_front front (hex_at (high ∷ low ∷ more)) ≡ None = rw h refl in
-    sym so_far ∙ one
-
-pub pairs-done : (front rest : List ℕ) (total : Option (List ℕ)) → length rest ≡ 0 → with_front front (hex_at rest) ≡ total → total ≡ Some front
-unfolding hex_at
-pairs-done front [] total e so_far = sym so_far ∙ ap (λ (xs : List ℕ). Some xs) (append-nil front)
-pairs-done front (d ∷ rest) total e so_far = let no : ⊥ = omega arith in absurd no
-
-pub pairs-odd : (front rest : List ℕ) (total : Option (List ℕ)) → 0 < length rest → length rest < 2 → with_front front (hex_at rest) ≡ total → total ≡ None
-unfolding hex_at
-pairs-odd front [] total e f so_far = let no : ⊥ = omega arith in absurd no
-pairs-odd front (d ∷ []) total e f so_far = sym so_far
-pairs-odd front (d ∷ c ∷ rest) total e f so_far = let no : ⊥ = omega arith in absurd no
 
 -- ---- call lines
 

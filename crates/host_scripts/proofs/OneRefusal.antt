@@ -7,9 +7,12 @@ use Rattle.host_scripts.specs.declared.script.Script.{Script}
 use Rattle.host_scripts.specs.declared.script.Call.{Call}
 use Rattle.host_scripts.specs.declared.script.Cause.{Cause}
 use Rattle.host_scripts.specs.declared.script.Cause.TheVariants.{Form, Range, Size}
-use Rattle.host_scripts.specs.Scripts.{line, numeral, call_text, order_texts, script_lines, IsScript}
+use Rattle.text_fields.specs.Spelling.{line, numeral}
+use Rattle.host_scripts.specs.Scripts.{call_text, order_texts, script_lines, IsScript}
 use Rattle.host_scripts.specs.Refusals.{IsFormedCall, IsFormed, IsRanged, Begins, GoesOn, IsCause, IsRefusal}
-use Rattle.host_scripts.proofs.Parts.{lacks, lacks-append, numeral-lacks}
+use Rattle.text_fields.specs.Laws.{lacks}
+use Rattle.text_fields.proofs.Cuts.{lacks-append}
+use Rattle.text_fields.proofs.NumeralLaws.{numeral-lacks}
 use Rattle.host_scripts.proofs.Rules.{cut-line}
 use Rattle.host_scripts.proofs.Texts.{maxima_rule, mode_rule, order_rule}
 use Rattle.host_scripts.proofs.CallTexts.{call_rule}

@@ -13,13 +13,15 @@ use Rattle.host_scripts.specs.declared.script.Action.{Action}
 use Rattle.host_scripts.specs.declared.script.Action.TheVariants.{Read, Write, Fill, Raw, Lose, Reset, DropNext, Replace, Rebuild, Resync}
 use Rattle.host_scripts.specs.declared.script.Cause.{Cause}
 use Rattle.host_scripts.specs.declared.script.Cause.TheVariants.{Form, Range, Size}
-use Rattle.host_scripts.specs.Scripts.{line, numeral, script_lines, IsAction, IsCall, IsScript}
-use Rattle.host_scripts.specs.Words.{stripped}
+use Rattle.text_fields.specs.Spelling.{line, numeral}
+use Rattle.host_scripts.specs.Scripts.{script_lines, IsAction, IsCall, IsScript}
+use Rattle.text_fields.specs.Reading.{stripped}
 use Rattle.host_scripts.specs.Loose.{number_of}
 use Rattle.host_scripts.specs.Reading.{Fault, any, within, line_at, number_at}
 use Rattle.host_scripts.specs.Refusals.{IsFormedAction, IsFormedCall, IsFormed, IsRangedAction, IsRangedCall, IsRanged, Begins, IsCause}
-use Rattle.host_scripts.proofs.NumeralLaws.{numeral-is}
-use Rattle.host_scripts.proofs.Parts.{lacks, stripped-again}
+use Rattle.text_fields.proofs.NumeralLaws.{numeral-is}
+use Rattle.text_fields.specs.Laws.{lacks}
+use Rattle.text_fields.proofs.Cuts.{stripped-again}
 use Rattle.host_scripts.proofs.Outcomes.{Outcome}
 use Rattle.host_scripts.proofs.Rules.{IsRule, LineIs, LineBad, cut-line, line-outcome}
 use Rattle.host_scripts.proofs.Texts.{cap, number_rule}

@@ -4,7 +4,8 @@ use Rattle.std.specs.List.{flat_map}
 use Rattle.std.proofs.lemmas.Grind.{flat_map-append}
 use Rattle.host_scripts.specs.declared.script.Script.{Script}
 use Rattle.host_scripts.specs.declared.script.Call.{Call}
-use Rattle.host_scripts.specs.Scripts.{line, call_text, order_texts, script_lines, spelling}
+use Rattle.text_fields.specs.Spelling.{line}
+use Rattle.host_scripts.specs.Scripts.{call_text, order_texts, script_lines, spelling}
 use Rattle.host_scripts.specs.Printed.{shape_texts, start_texts}
 
 grouped : (s : Script) → script_lines s ≡ shape_texts s.geometry ++ (start_texts s ++ (order_texts s.order ++ map call_text s.calls))

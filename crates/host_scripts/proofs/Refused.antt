@@ -6,7 +6,8 @@ use Rattle.host_scripts.specs.declared.script.Script.{Script}
 use Rattle.host_scripts.specs.declared.script.Cause.{Cause}
 use Rattle.host_scripts.specs.declared.script.ScriptFault.{ScriptFault}
 use Rattle.host_scripts.specs.declared.script.ScriptFault.TheVariants as faults
-use Rattle.host_scripts.specs.Scripts.{line, script_lines, spelling, Spells}
+use Rattle.text_fields.specs.Spelling.{line}
+use Rattle.host_scripts.specs.Scripts.{script_lines, spelling, Spells}
 use Rattle.host_scripts.specs.Reading.{Fault, Fails, Gives, Head, head_at, order_at, calls_at, first_line, script_at}
 use Rattle.host_scripts.specs.Refusals.{Refuses}
 use Rattle.host_scripts.proofs.Outcomes.{Outcome, then}

@@ -3,10 +3,11 @@ use Rattle.std.proofs.Common.{◌≡◌, ℕ, cond, Bool, true, false, List, [],
 use Rattle.std.proofs.lemmas.Option.{none-some, same_Some}
 use Rattle.host_scripts.specs.declared.script.Cause.{Cause}
 use Rattle.host_scripts.specs.declared.script.Cause.TheVariants.{Form, Range, Size}
-use Rattle.host_scripts.specs.Scripts.{line}
-use Rattle.host_scripts.specs.Words.{cut_at}
+use Rattle.text_fields.specs.Spelling.{line}
+use Rattle.text_fields.specs.Reading.{cut_at}
 use Rattle.host_scripts.specs.Reading.{◌>>=◌, ended, judged, next_at, line_at}
-use Rattle.host_scripts.proofs.Parts.{lacks, cut-takes, cut-again}
+use Rattle.text_fields.specs.Laws.{lacks}
+use Rattle.text_fields.proofs.Cuts.{cut-takes, cut-again}
 use Rattle.host_scripts.proofs.Outcomes.{Outcome}
 
 -- the value of a text, as the code keeps it

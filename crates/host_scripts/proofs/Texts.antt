@@ -8,16 +8,24 @@ use Rattle.std.proofs.lemmas.Option.{cond_some, same_Some}
 use Rattle.std.proofs.lemmas.Slice.Eq.{bytes_eq-Decides}
 use Rattle.stripe_layout.specs.declared.mode.Mode.{Mode}
 use Rattle.stripe_layout.specs.declared.mode.Mode.TheVariants.{Supervised, ThirdParty, Readback}
-use Rattle.host_scripts.specs.Scripts.{numeral, letter, maxima_text, mode_text}
-use Rattle.host_scripts.specs.Words.{◌>>=◌, cut_at, stripped, numeral_of}
-use Rattle.host_scripts.specs.Loose.{exact_of, number_of, three_of, maxima_of, modes, mode_of, is_letter, are_letters, letters_of, order_of}
-use Rattle.host_scripts.proofs.NumeralLaws.{numeral-takes, numeral-again}
-use Rattle.host_scripts.proofs.Parts.{bind-some, lacks, lacks-append, numeral-lacks, cut-takes, cut-again, stripped-takes, stripped-again}
+use Rattle.text_fields.specs.Spelling.{numeral}
+use Rattle.host_scripts.specs.Scripts.{letter, maxima_text, mode_text}
+use Rattle.text_fields.specs.Reading.{◌>>=◌, cut_at, stripped}
+use Rattle.host_scripts.specs.Loose.{numeral_of, exact_of, number_of, three_of, maxima_of, modes, mode_of, is_letter, are_letters, letters_of, order_of}
+use Rattle.text_fields.proofs.Cuts.{bind-some, lacks-append, cut-takes, cut-again, stripped-takes, stripped-again}
+use Rattle.text_fields.specs.Laws.{lacks}
+use Rattle.text_fields.proofs.NumeralLaws.{IsCapped, capped-takes, capped-again, numeral-lacks}
 use Rattle.host_scripts.proofs.Rules.{Says, IsRule}
 
 -- the number that the code keeps of one of any size
 abbrev pub cap : ℕ → ℕ
 cap n = min n 4294967296
+
+pub numeral-takes : (text : List ℕ) (v : ℕ) → numeral_of text ≡ Some v → IsCapped 4294967296 text v
+numeral-takes text v e = capped-takes 4294967296 text v e
+
+pub numeral-again : (n : ℕ) → numeral_of (numeral n) ≡ Some (cap n)
+numeral-again n = capped-again 4294967296 n
 
 -- ---- one text
 

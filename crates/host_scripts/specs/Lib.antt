@@ -1,5 +1,4 @@
 pub mod Scripts
-pub mod Words
 pub mod Loose
 pub mod Reading
 pub mod Heads

@@ -10,7 +10,11 @@ use Rattle.host_scripts.specs.declared.script.Action.TheVariants.{Read, Write, F
 use Rattle.host_scripts.specs.declared.actions.Operation.{Operation}
 use Rattle.host_scripts.specs.declared.actions.Operation.TheVariants.{Losing, Resetting, Dropping, Replacing, Rebuilding}
 use Rattle.host_scripts.specs.Scripts.{mode_text}
-use Rattle.host_scripts.specs.Words.{◌>>=◌, cut_at, stripped, numeral_of, filled_of, data_of, one_byte_of}
+use Rattle.text_fields.specs.Reading.{◌>>=◌, cut_at, stripped, capped_of, filled_of, data_of, one_byte_of}
+
+-- the number of a numeral, or 2 ^ 32 where it is greater: more than each number that a script may have
+abbrev pub numeral_of : List ℕ → Option ℕ
+numeral_of text = capped_of 4294967296 text
 
 -- this text and no other
 unfoldable pub exact_of : {V : Type 0} → List ℕ → V → List ℕ → Option V

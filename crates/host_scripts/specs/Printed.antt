@@ -2,7 +2,8 @@
 use Rattle.std.specs.Prelude.{ℕ, List, [], ◌∷◌, ◌++◌, get_or, codes}
 use Rattle.stripe_layout.specs.declared.geometry.Geometry.{Geometry}
 use Rattle.host_scripts.specs.declared.script.Script.{Script}
-use Rattle.host_scripts.specs.Scripts.{numeral, maxima_text, mode_text}
+use Rattle.text_fields.specs.Spelling.{numeral}
+use Rattle.host_scripts.specs.Scripts.{maxima_text, mode_text}
 
 -- the version and the array's shape
 abbrev pub shape_texts : Geometry → List (List ℕ)

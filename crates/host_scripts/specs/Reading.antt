@@ -12,7 +12,7 @@ use Rattle.host_scripts.specs.declared.script.Cause.{Cause}
 use Rattle.host_scripts.specs.declared.script.Cause.TheVariants.{Form, Range, Size}
 use Rattle.host_scripts.specs.declared.script.ScriptFault.{ScriptFault}
 use Rattle.host_scripts.specs.declared.script.ScriptFault.TheVariants as faults
-use Rattle.host_scripts.specs.Words.{cut_at, stripped}
+use Rattle.text_fields.specs.Reading.{cut_at, stripped}
 use Rattle.host_scripts.specs.Loose.{exact_of, number_of, maxima_of, mode_of, order_of, call_of}
 
 -- a line and a cause

@@ -11,7 +11,8 @@ use Rattle.host_scripts.specs.declared.script.Cause.{Cause}
 use Rattle.host_scripts.specs.declared.script.Cause.TheVariants.{Form, Range, Size}
 use Rattle.host_scripts.specs.declared.script.ScriptFault.{ScriptFault}
 use Rattle.host_scripts.specs.declared.script.ScriptFault.TheVariants as faults
-use Rattle.host_scripts.specs.Scripts.{line, script_lines, AreBytes, IsRangedWith, IsScript, Spells}
+use Rattle.text_fields.specs.Spelling.{line, AreBytes}
+use Rattle.host_scripts.specs.Scripts.{script_lines, IsRangedWith, IsScript, Spells}
 
 -- bytes are bytes, and a CDB has at least one
 abbrev pub IsFormedAction : Action → Type 0

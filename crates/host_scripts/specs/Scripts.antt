@@ -1,8 +1,9 @@
 -- What a script is, and the bytes that spell it.
-use Rattle.std.specs.Prelude.{ℕ, zero, suc, ◌≡◌, ◌+◌, ◌*◌, ◌/◌, ◌%◌, ◌^◌, ◌<◌, ◌≤◌, ◌⊎◌, nat_lt, if◌then◌else◌, List, [], ◌∷◌, ◌++◌, length, get_or, map, codes}
+use Rattle.std.specs.Prelude.{ℕ, ◌≡◌, ◌+◌, ◌*◌, ◌^◌, ◌<◌, ◌≤◌, ◌⊎◌, List, [], ◌∷◌, ◌++◌, length, get_or, map, codes}
 use Rattle.std.specs.List.{flat_map, AllByRecursion}
-use Rattle.std.specs.Int.Digits.{digits_of}
 use Rattle.blocks_core.specs.Blocks.{AreWhole}
+pub use Rattle.text_fields.specs.Spelling.{line, numeral, nibble, hex, hex_or_dash}
+use Rattle.text_fields.specs.Spelling.{AreBytes}
 use Rattle.stripe_layout.specs.Layout.{IsArray}
 use Rattle.stripe_layout.specs.declared.geometry.Geometry.{Geometry}
 use Rattle.stripe_layout.specs.declared.mode.Mode.{Mode}
@@ -11,29 +12,6 @@ use Rattle.host_scripts.specs.declared.script.Script.{Script}
 use Rattle.host_scripts.specs.declared.script.Call.{Call}
 use Rattle.host_scripts.specs.declared.script.Action.{Action}
 use Rattle.host_scripts.specs.declared.script.Action.TheVariants.{Read, Write, Fill, Raw, Lose, Reset, DropNext, Replace, Rebuild, Resync}
-
--- text, and the byte that ends a line
-abbrev pub line : List ℕ → List ℕ
-line text = text ++ 10 ∷ []
-
--- the one numeral of a number of any size: its digits, none in front of them, and `0` for 0
-unfoldable pub numeral : ℕ → List ℕ
-numeral zero = 48 ∷ []
-numeral (suc n) = map (λ d. 48 + d) (digits_of 10 (suc n))
-
--- one hexadecimal digit, in lower case
-abbrev pub nibble : ℕ → ℕ
-nibble n = if nat_lt n 10 then 48 + n else 87 + n
-
--- each byte as two digits, the high four bits first
-abbrev pub hex : List ℕ → List ℕ
-hex [] = []
-hex (b ∷ bytes) = nibble (b / 16) ∷ nibble (b % 16) ∷ hex bytes
-
--- bytes in a line: no bytes are a dash
-abbrev pub hex_or_dash : List ℕ → List ℕ
-hex_or_dash [] = 45 ∷ []
-hex_or_dash (b ∷ bytes) = hex (b ∷ bytes)
 
 -- the letter of a host
 abbrev pub letter : ℕ → ℕ
@@ -102,10 +80,6 @@ IsMaximum unit n = (n ≡ 0) ⊎ ((unit ≤ n) × (n ≤ 65535))
 -- bytes of a write: at most 65535 whole blocks
 abbrev pub AreBlocks : Geometry → List ℕ → Type 0
 AreBlocks g bytes = AreWhole g.block bytes × (length bytes ≤ 65535 * g.block)
-
--- each is a byte
-abbrev pub AreBytes : List ℕ → Type 0
-AreBytes bytes = AllByRecursion (λ b. b < 256) bytes
 
 -- the numbers of an action are in range, and a write's bytes are at most 65535 whole blocks
 abbrev pub IsAction : Geometry → Action → Type 0

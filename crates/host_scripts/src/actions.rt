@@ -2,15 +2,15 @@
 
 ghost use Rattle.std.specs.Prelude.{◌≡◌, ◌<◌, ◌==◌, ◌&&◌, nat_le, ◌*◌, ◌%◌, ◌≤◌, length};
 ghost use Rattle.host_scripts.specs.declared.script.Action.TheVariants as actions;
-ghost use Rattle.host_scripts.specs.Words.{Reads};
+ghost use Rattle.text_fields.specs.Reading.{Reads};
 ghost use Rattle.host_scripts.specs.Loose.{addressed_of, two_of, operation_at, read_of, write_of, fill_of, raw_of, target_of, on_target, operator_of, action_of};
 ghost use Rattle.host_scripts.specs.Reading.{Gives, judged, is_ranged, is_sized};
 
-use crate::hexadecimal::{data_bytes, filled_bytes, one_byte};
+use crate::numbers::numeral;
 use crate::script::{Action, Cause, ScriptFault, refused};
-use crate::words::{cut_bytes, is_text, numeral, strip};
 use std::alloc::Global;
 use stripe_layout::Geometry;
+use text_fields::{cut, data_bytes, filled_bytes, is_text, one_byte, strip};
 
 /// What an operator does to one target.
 #[derive(Clone, Copy)]
@@ -27,12 +27,11 @@ pub enum Operation {
 fn addressed(text: &[u8]) -> Option<(u64, &[u8])>
     ensures { Reads (λ x. (x.0, x.1.now)) result (addressed_of text.now) }
 {
-    let (number, rest) = cut_bytes(text, b' ')?;
+    let (number, rest) = cut(text, b' ')?;
     let number = numeral(number)?;
     Some((number, rest))
 }
 
-/// Two numbers.
 #[tactic(auto, unfolding(crate::specs::Loose::two_of))]
 fn two_numbers(text: &[u8]) -> Option<(u64, u64)>
     ensures { Reads (λ x. x) result (two_of text.now) }
@@ -42,7 +41,6 @@ fn two_numbers(text: &[u8]) -> Option<(u64, u64)>
     Some((first, second))
 }
 
-/// What stands behind `read `.
 #[tactic(auto, unfolding(crate::specs::Loose::read_of))]
 fn read_action(geometry: &Geometry, line: u32, text: &[u8]) -> Result<Action, ScriptFault>
     ensures { Gives (λ a. a) result (judged line (is_ranged geometry.now) (is_sized geometry.now) (read_of text.now)) }
@@ -69,7 +67,8 @@ fn are_blocks(block: u32, bytes: usize) -> bool
     bytes % size == 0 && bytes <= 65535 * size
 }
 
-/// What stands behind `write `.
+/// What stands behind `write `. Causes are tested in the order of `Cause`, form, range and size: so the
+/// bytes are read before the number is judged.
 #[tactic(auto, unfolding(crate::specs::Loose::write_of))]
 fn write_action(
     alloc: Global,
@@ -110,7 +109,6 @@ fn fill_numbers(text: &[u8]) -> Option<(u64, u64, u8)>
     Some((lba, count, byte))
 }
 
-/// What stands behind `fill `.
 fn fill_action(geometry: &Geometry, line: u32, text: &[u8]) -> Result<Action, ScriptFault>
     ensures { Gives (λ a. a) result (judged line (is_ranged geometry.now) (is_sized geometry.now) (fill_of text.now)) }
 {
@@ -138,7 +136,7 @@ fn raw_action(
 ) -> Result<Action, ScriptFault>
     ensures { Gives (λ a. a) result (judged line (is_ranged geometry.now) (is_sized geometry.now) (raw_of text.now)) }
 {
-    let Some((cdb, behind)) = cut_bytes(text, b' ') else {
+    let Some((cdb, behind)) = cut(text, b' ') else {
         return Err(refused(line, Cause::Form));
     };
     let Some(cdb) = filled_bytes(alloc, cdb)? else {
@@ -218,7 +216,7 @@ fn operator_action(geometry: &Geometry, line: u32, text: &[u8]) -> Result<Action
     }
 }
 
-/// What a host asks.
+/// What a host asks, or else an operator.
 #[tactic(auto, unfolding(crate::specs::Loose::action_of))]
 pub fn action(
     alloc: Global,

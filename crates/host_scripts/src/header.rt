@@ -1,15 +1,16 @@
 //! The ten lines that each script begins with.
 
 ghost use Rattle.std.specs.Prelude.{◌≤◌, ◌<◌, ◌+◌, ◌≡◌, [], ◌∷◌, IfOk, length, codes, ℕ};
-ghost use Rattle.host_scripts.specs.Words.{Reads};
+ghost use Rattle.text_fields.specs.Reading.{Reads};
 ghost use Rattle.host_scripts.specs.Loose.{number_of, three_of, maxima_of, mode_of, exact_of};
 ghost use Rattle.host_scripts.specs.Reading.{Gives, judged, any, within, next_at, line_at, number_at, are_maxima, is_maximum, geometry_at, targets_at, hosts_at, head_at};
 ghost use Rattle.host_scripts.specs.Heads.{head_of};
 
 use crate::modes::mode_of;
+use crate::numbers::{number_behind, numeral};
 use crate::script::{Cause, ScriptFault, refused};
-use crate::words::{cut_bytes, is_text, number_behind, numeral, strip};
 use stripe_layout::{Geometry, Mode};
+use text_fields::{cut, is_text, strip};
 
 /// What these lines say.
 #[derive(Clone, Copy)]
@@ -28,8 +29,8 @@ pub fn next_line(bytes: &[u8], line: u32) -> Result<(&[u8], &[u8]), ScriptFault>
     ensures value { Gives (λ x. (x.0.now, x.1.now)) result (next_at line bytes.now) }
     ensures shorter { IfOk result (λ x. length x.1.now < length bytes.now) }
 {
-    match cut_bytes(bytes, b'\n') {
-        Some(cut) => Ok(cut),
+    match cut(bytes, b'\n') {
+        Some(parts) => Ok(parts),
         None => Err(refused(line, Cause::Form)),
     }
 }
@@ -118,14 +119,13 @@ fn three_numbers(write: &[u8], regenerate: &[u8], rebuild: &[u8]) -> Option<(u64
     Some((write, regenerate, rebuild))
 }
 
-/// The three maxima, in form.
 #[tactic(auto, unfolding(crate::specs::Loose::maxima_of))]
 fn maxima_text(text: &[u8]) -> Option<(u64, u64, u64)>
     ensures { Reads (λ m. m.0 ∷ m.1 ∷ m.2 ∷ []) result (maxima_of text.now) }
 {
     let all = strip(text, b"maxima ")?;
-    let (write, rest) = cut_bytes(all, b' ')?;
-    let (regenerate, rebuild) = cut_bytes(rest, b' ')?;
+    let (write, rest) = cut(all, b' ')?;
+    let (regenerate, rebuild) = cut(rest, b' ')?;
     three_numbers(write, regenerate, rebuild)
 }
 
@@ -136,7 +136,6 @@ fn is_maximum(unit: u32, number: u64) -> bool
     number == 0 || (u64::from(unit) <= number && number <= 65535)
 }
 
-/// The three maxima in range.
 fn ranged_maxima(unit: u32, line: u32, text: &[u8]) -> Result<[u32; 3], ScriptFault>
     ensures { Gives (λ m. m) result (judged line (are_maxima unit) any (maxima_of text.now)) }
 {
@@ -197,7 +196,6 @@ fn host_lines(bytes: &[u8]) -> Result<(Mode, u32, u8, &[u8]), ScriptFault>
     Ok((mode, seed, hosts, rest))
 }
 
-/// The line of the version.
 #[tactic(auto, unfolding(crate::specs::Reading::line_at, crate::specs::Loose::exact_of))]
 fn version_line(bytes: &[u8]) -> Result<&[u8], ScriptFault>
     ensures value { Gives (λ x. (1, x.now)) result (line_at {V = ℕ} 1 any any (exact_of (codes "xorscript 1") 1) bytes.now) }

@@ -4,19 +4,16 @@
 mod actions;
 mod calls;
 mod header;
-mod hexadecimal;
 mod limits;
 mod lines;
 mod modes;
+mod numbers;
 mod parsing;
 mod printing;
 mod script;
-mod words;
 
 pub use calls::Calls;
-pub use hexadecimal::hex_bytes;
 pub use limits::over;
 pub use parsing::{one_refusal, one_spelling, parse};
 pub use printing::print;
 pub use script::{Action, Call, Cause, Limit, Script, ScriptFault};
-pub use words::ranged;

@@ -47,6 +47,7 @@ fn blocks(geometry: &Geometry, action: &Action) -> u64
     requires { 1 ≤ geometry.now.block }
     ensures { result ≡ blocks_of geometry.now action.now }
 {
+    // All actions are written out, so that a new one isn't taken for one that moves nothing.
     match action {
         Action::Read { count, .. } => u64::from(*count),
         Action::Write { bytes, .. } => bytes.len() as u64 / u64::from(geometry.block),
@@ -70,6 +71,8 @@ fn all_blocks(geometry: &Geometry, calls: &[Call]) -> u64
     let capacity = geometry.capacity();
     let mut sum = 0;
     for call in calls {
+        // A call that asks for more blocks than there are is refused before it moves any. Counted whole, a
+        // few such calls would use up the limit that is meant for blocks that move.
         sum += blocks(geometry, &call.action).min(capacity);
     }
     sum
@@ -91,7 +94,7 @@ fn is_pass(action: &Action) -> bool
     matches!(action, Action::Rebuild { .. } | Action::Resync)
 }
 
-/// How many calls do.
+/// How many calls go over all stripes.
 fn passes(calls: &[Call]) -> usize
     ensures { result ≡ passes_of calls.now }
 {
@@ -104,8 +107,9 @@ fn passes(calls: &[Call]) -> usize
     passes
 }
 
-/// The first limit that a script passes, in the order of `Limit`: 10,000 calls; 100,000 blocks that calls read or write,
-/// of each call no more than the array has; 16 MiB of these; 16 MiB of media; 16 rebuilds and resyncs. Takes no memory.
+/// The first limit that a script passes, in the order of `Limit`: 10,000 calls; 100,000 blocks that calls
+/// read or write, of each call no more than the array has; 16 MiB of these; 16 MiB of media; 16 rebuilds
+/// and resyncs. Takes no memory.
 pub fn over(script: &Script) -> Option<Limit>
     requires script { IsScript script.now }
     requires calls { length script.now.calls < 2 ^ 32 }

@@ -10,15 +10,14 @@ use crate::actions::action;
 use crate::calls::Calls;
 use crate::header::next_line;
 use crate::script::{Action, Call, Cause, ScriptFault, refused};
-use crate::words::strip;
 use blocks_core::{Bytes, Memory};
 use std::alloc::Global;
 use stripe_layout::Geometry;
+use text_fields::strip;
 
 /// The most turns that a script may give.
 const MOST_TURNS: usize = 1000;
 
-/// Whether each byte is an upper-case letter.
 fn all_letters(text: &[u8]) -> bool
     ensures { result ≡ list_all is_letter text.now }
 {
@@ -32,7 +31,7 @@ fn are_letters(text: &[u8]) -> bool
     0 < text.len() && all_letters(text)
 }
 
-/// Whether each letter is one of the hosts'.
+/// Whether each letter is one of the hosts'. The difference stops at zero, as that of the definition does.
 fn are_of_hosts(hosts: u8, letters: &[u8]) -> bool
     ensures { result ≡ list_all (λ l. nat_lt (l - 65) hosts) letters.now }
 {
@@ -49,7 +48,6 @@ fn are_turns(hosts: u8, letters: &[u8]) -> bool
     letters.len() <= MOST_TURNS && are_of_hosts(hosts, letters)
 }
 
-/// The hosts of letters.
 fn hosts_of(alloc: Global, letters: &[u8]) -> Result<Bytes, Memory>
     ensures { IfOk result (λ hosts. hosts ≡ map (λ l. l - 65) letters.now) }
 {
@@ -121,6 +119,9 @@ fn hosted(
     ensures { (read : Option Action) → Gives (λ a. a) asked (judged line (is_ranged geometry.now) (is_sized geometry.now) read)
         → Gives (λ c. c) result (judged line (is_ranged_call geometry.now hosts) (is_sized_call geometry.now) (called host read)) }
 {
+    // What the host asks was read first, also where there is no such host: a line that is wrong in form is
+    // refused for its form, and only else for its host's letter. With the letter tested first, a fault of
+    // form would be told as one of range.
     if host < hosts {
         let action = asked?;
         return Ok(Call { host, action });

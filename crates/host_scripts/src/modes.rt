@@ -4,8 +4,8 @@ ghost use Rattle.std.specs.Prelude.{◌≡◌};
 ghost use Rattle.host_scripts.specs.Scripts.{mode_text};
 ghost use Rattle.host_scripts.specs.Loose.{mode_of};
 
-use crate::words::is_text;
 use stripe_layout::Mode;
+use text_fields::is_text;
 
 /// All modes.
 const MODES: [Mode; 3] = [Mode::Supervised, Mode::ThirdParty, Mode::Readback];

@@ -51,9 +51,9 @@ fn read_script(alloc: Global, bytes: &[u8]) -> Result<Script, ScriptFault>
     })
 }
 
-/// The script that the bytes spell, or else the first line that is refused, and the first cause in it in the order of
-/// `Cause`. A numeral of any length is a number. Takes memory for the calls and their bytes; the time is linear in the
-/// bytes.
+/// The script that the bytes spell, or else the first line that is refused, and the first cause in it in
+/// the order of `Cause`. A numeral of any length is a number. Takes memory for the calls and their bytes;
+/// the time is linear in the bytes.
 pub fn parse(alloc: Global, bytes: &[u8]) -> Result<Script, ScriptFault>
     requires { length bytes.now < 2 ^ 32 }
     // What is read is spelt so.

@@ -1,26 +1,25 @@
-//! The text of a script.
+//! The text of a script. Each function puts one part of the grammar at the end of a text; its clause names
+//! the part.
 
 ghost use Rattle.std.specs.Prelude.{◌≡◌, ◌<◌, ◌≤◌, ◌++◌, ◌∷◌, [], ℕ, All, OnOk, IfOk, codes, get_or, map, length};
 ghost use Rattle.std.specs.List.{flat_map};
 ghost use Rattle.host_scripts.specs.Printed.{shape_texts, start_texts};
-ghost use Rattle.host_scripts.specs.Scripts.{line, numeral, nibble, hex, hex_or_dash, letter, maxima_text, mode_text, order_texts, action_text, call_text, spelling, IsScript, Spells};
+ghost use Rattle.text_fields.specs.Spelling.{line, numeral, hex, hex_or_dash};
+ghost use Rattle.host_scripts.specs.Scripts.{letter, maxima_text, mode_text, order_texts, action_text, call_text, spelling, IsScript, Spells};
 
 use crate::modes::mode_text;
 use crate::script::{Action, Call, Script};
 use blocks_core::{Bytes, Memory};
-use itoa::Buffer;
 use std::alloc::Global;
 use stripe_layout::{Geometry, Mode};
+use text_fields::{push_data, push_hex};
 
-/// A number in decimal.
 fn push_number(text: &mut Bytes, number: u32) -> Result<(), Memory>
     ensures { OnOk result (text.new ≡ text.old ++ numeral number) }
 {
-    let mut buffer = Buffer::new();
-    text.push_slice(buffer.format(number).as_bytes())
+    text_fields::push_number(text, u64::from(number))
 }
 
-/// A keyword and a number.
 fn push_numbered(text: &mut Bytes, keyword: &[u8], number: u32) -> Result<(), Memory>
     ensures { OnOk result (text.new ≡ text.old ++ (keyword.now ++ numeral number)) }
 {
@@ -28,7 +27,6 @@ fn push_numbered(text: &mut Bytes, keyword: &[u8], number: u32) -> Result<(), Me
     push_number(text, number)
 }
 
-/// A line of a keyword and a number.
 fn push_number_line(text: &mut Bytes, keyword: &[u8], number: u32) -> Result<(), Memory>
     ensures { OnOk result (text.new ≡ text.old ++ line (keyword.now ++ numeral number)) }
 {
@@ -36,46 +34,12 @@ fn push_number_line(text: &mut Bytes, keyword: &[u8], number: u32) -> Result<(),
     text.push(b'\n')
 }
 
-/// A keyword and two numbers.
 fn push_two(text: &mut Bytes, keyword: &[u8], first: u32, second: u32) -> Result<(), Memory>
     ensures { OnOk result (text.new ≡ text.old ++ (keyword.now ++ (numeral first ++ 32 ∷ numeral second))) }
 {
     push_numbered(text, keyword, first)?;
     text.push(b' ')?;
     push_number(text, second)
-}
-
-/// One hexadecimal digit, in lower case.
-fn digit_of(number: u8) -> u8
-    requires { number < 16 }
-    ensures { result ≡ nibble number }
-{
-    if number < 10 {
-        b'0' + number
-    } else {
-        b'a' - 10 + number
-    }
-}
-
-/// Each byte as two digits.
-fn push_hex(text: &mut Bytes, bytes: &[u8]) -> Result<(), Memory>
-    ensures { OnOk result (text.new ≡ text.old ++ hex bytes.now) }
-{
-    for byte in bytes {
-        text.push(digit_of(*byte / 16))?;
-        text.push(digit_of(*byte % 16))?;
-    }
-    Ok(())
-}
-
-/// Bytes as digits, or a dash where there are none.
-fn push_data(text: &mut Bytes, bytes: &[u8]) -> Result<(), Memory>
-    ensures { OnOk result (text.new ≡ text.old ++ hex_or_dash bytes.now) }
-{
-    match bytes {
-        [] => text.push(b'-'),
-        _ => push_hex(text, bytes),
-    }
 }
 
 /// What stands behind a host's letter where it writes bytes.
@@ -124,7 +88,6 @@ fn push_action(text: &mut Bytes, action: &Action) -> Result<(), Memory>
     }
 }
 
-/// The line of a call.
 fn push_call(text: &mut Bytes, call: &Call) -> Result<(), Memory>
     requires { call.now.host < 26 }
     ensures { OnOk result (text.new ≡ text.old ++ line (call_text call.now)) }
@@ -135,7 +98,6 @@ fn push_call(text: &mut Bytes, call: &Call) -> Result<(), Memory>
     text.push(b'\n')
 }
 
-/// The lines of all calls.
 fn push_calls(text: &mut Bytes, calls: &[Call]) -> Result<(), Memory>
     requires { All (λ call. call.host < 26) calls.now }
     ensures { OnOk result (text.new ≡ text.old ++ flat_map line (map call_text calls.now)) }
@@ -146,7 +108,6 @@ fn push_calls(text: &mut Bytes, calls: &[Call]) -> Result<(), Memory>
     Ok(())
 }
 
-/// The letters of hosts.
 fn push_letters(text: &mut Bytes, hosts: &[u8]) -> Result<(), Memory>
     requires { All (λ host. host < 26) hosts.now }
     ensures { OnOk result (text.new ≡ text.old ++ map letter hosts.now) }
@@ -170,7 +131,6 @@ fn push_order(text: &mut Bytes, hosts: &[u8]) -> Result<(), Memory>
     text.push(b'\n')
 }
 
-/// The line of the version.
 fn push_version(text: &mut Bytes) -> Result<(), Memory>
     ensures { OnOk result (text.new ≡ text.old ++ line (codes "xorscript 1")) }
 {
@@ -188,7 +148,6 @@ fn push_shape(text: &mut Bytes, geometry: &Geometry) -> Result<(), Memory>
     push_number_line(text, b"stripes ", geometry.stripes)
 }
 
-/// The line of the maxima.
 fn push_maxima(text: &mut Bytes, maxima: &[u32; 3]) -> Result<(), Memory>
     ensures { OnOk result (text.new ≡ text.old ++ line (maxima_text (get_or maxima.now 0 0) (get_or maxima.now 1 0) (get_or maxima.now 2 0))) }
 {
@@ -198,7 +157,6 @@ fn push_maxima(text: &mut Bytes, maxima: &[u32; 3]) -> Result<(), Memory>
     text.push(b'\n')
 }
 
-/// The line of the mode.
 fn push_mode(text: &mut Bytes, mode: Mode) -> Result<(), Memory>
     ensures { OnOk result (text.new ≡ text.old ++ line (mode_text mode)) }
 {

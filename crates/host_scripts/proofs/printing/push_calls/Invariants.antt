@@ -1,6 +1,7 @@
 use Rattle.std.proofs.Common.{◌≡◌, ◌++◌, drop, map}
 use Rattle.std.specs.List.{flat_map}
-use Rattle.host_scripts.specs.Scripts.{line, call_text}
+use Rattle.text_fields.specs.Spelling.{line}
+use Rattle.host_scripts.specs.Scripts.{call_text}
 use Rattle.host_scripts.proofs.printing.push_calls.Given as goal
 
 abbrev pub invariant-loop-call : goal.invariant-loop-call

@@ -1,5 +1,5 @@
 use Rattle.std.proofs.Common.{rules, arith}
-use Rattle.host_scripts.proofs.NumeralLaws.{numeral-decimal}
+use Rattle.text_fields.proofs.NumeralLaws.{numeral-decimal}
 use Rattle.host_scripts.proofs.printing.push_number.Goals as goal
 
 pub returns : goal.returns
