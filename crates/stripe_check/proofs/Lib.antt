@@ -7,4 +7,3 @@ pub mod Summaries
 pub mod Settings
 pub mod WorkedJournals
 pub mod OnePiece
-pub mod Fronts

@@ -4,7 +4,7 @@ use Rattle.std.proofs.lemmas.Bool.{eq-eqb, le-ltb}
 use Rattle.std.proofs.lemmas.List.{take_all}
 use Rattle.stripe_layout.specs.declared.geometry.Geometry.{Geometry}
 use Rattle.stripe_layout.specs.Layout.{capacity_of}
-use Rattle.array_journal.specs.Lists.{slice}
+use Rattle.blocks_core.specs.Lists.{slice}
 use Rattle.host_scripts.specs.declared.script.Script.{Script}
 use Rattle.stripe_check.specs.Asked.{goes_through}
 use Rattle.stripe_check.specs.Cuts.{Span, most_blocks, first_count, cut, pieces_of}

@@ -4,12 +4,8 @@ use Rattle.std.proofs.lemmas.List.{take_all, drop_all, take_min, drop_min, appen
 use Rattle.std.proofs.lemmas.Bool.{cases_lt}
 use Rattle.std.specs.Prelude.{bit_xor}
 use Rattle.blocks_core.specs.Xor.{xor}
-use Rattle.array_journal.specs.Lists.{slice, put}
-
-pub length-xor_le : (a b : List ℕ) → length a ≤ length b → length (xor a b) ≡ length b
-length-xor_le [] b le = refl
-length-xor_le (x ∷ a) [] le = let no : ⊥ = omega arith in absurd no
-length-xor_le (x ∷ a) (y ∷ b) le = ap suc (length-xor_le a b (omega arith))
+use Rattle.blocks_core.specs.Lists.{slice, put}
+use Rattle.blocks_core.proofs.XorLaws.{length-xor_le}
 
 -- what stands behind the shorter list stays
 pub xor-longer : (a b : List ℕ) (k : ℕ) → k ≡ length a → length a ≤ length b → xor a (take k b) ++ drop k b ≡ xor a b

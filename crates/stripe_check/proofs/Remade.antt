@@ -8,7 +8,7 @@ use Rattle.array_journal.specs.declared.setting.Setting.{Setting}
 use Rattle.array_journal.specs.declared.task.Task.{Task}
 use Rattle.array_journal.specs.Lives.{is_loss, puts_rebuilt, rebuilds, is_rebuild, absent_in}
 use Rattle.stripe_check.specs.Folds.{brief_of, briefly_rebuilt_by}
-use Rattle.stripe_check.specs.Losing.{AreLosses}
+use Rattle.stripe_check.specs.AbsentUnits.{AreLosses}
 
 -- a place that is set stays below a bound
 get_or-set_le : (xs : List ℕ) (k n v bound : ℕ) → get_or xs n 0 ≤ bound → v ≤ bound → get_or (set xs k v) n 0 ≤ bound

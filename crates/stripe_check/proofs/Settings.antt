@@ -7,7 +7,7 @@ use Rattle.array_journal.specs.declared.entry.Entry.{Entry}
 use Rattle.array_journal.specs.declared.event.Event.{Event}
 use Rattle.array_journal.specs.declared.event.Event.TheVariants.{Put, Diff, Fold, Fresh}
 use Rattle.array_journal.specs.declared.setting.Setting.{Setting}
-use Rattle.array_journal.specs.Lists.{slice, put}
+use Rattle.blocks_core.specs.Lists.{slice, put}
 use Rattle.array_journal.specs.Media.{media, medium_after}
 use Rattle.stripe_check.specs.Folds.{AreMedia}
 use Rattle.stripe_check.specs.Found.{stripe_total}

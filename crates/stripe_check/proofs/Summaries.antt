@@ -1,32 +1,35 @@
 -- What was kept while a journal was read gives its report.
-use Rattle.std.proofs.Common.{◌≡◌, ℕ, suc, ◌+◌, ◌*◌, ◌<◌, ◌≤◌, ◌&&◌, not, List, [], ◌∷◌, ◌++◌, length, map, get_or, reverse, Option, Some, None, refl, ap, sym, ◌∙◌, arith}
+use Rattle.std.proofs.Common.{◌≡◌, ℕ, zero, suc, ◌+◌, ◌*◌, ◌<◌, ◌≤◌, ◌&&◌, not, List, [], ◌∷◌, ◌++◌, length, map, get_or, reverse, Option, Some, None, refl, ap, sym, ◌∙◌, arith}
+use Rattle.std.specs.Prelude.{filter, is_some}
 use Rattle.std.specs.List.{flat_map, filter_map}
 use Rattle.std.specs.Option.{option_map}
-use Rattle.blocks_core.specs.Xor.{xor_all}
+use Rattle.blocks_core.specs.Xor.{xor_all, is_zero}
 use Rattle.stripe_layout.specs.declared.geometry.Geometry.{Geometry}
 use Rattle.array_journal.specs.declared.entry.Entry.{Entry}
 use Rattle.array_journal.specs.declared.setting.Setting.{Setting}
 use Rattle.array_journal.specs.declared.task.Task.{Task}
 use Rattle.array_journal.specs.Commands.{task_of}
 use Rattle.array_journal.specs.Listed.{dirty_stripe, listed_for}
-use Rattle.array_journal.specs.Lists.{numbers, slice}
+use Rattle.blocks_core.specs.Lists.{slice}
+use Rattle.dirty_list.specs.Listings.{command_of}
+use Rattle.array_journal.specs.Lists.{numbers}
 use Rattle.array_journal.specs.Media.{media}
 use Rattle.host_scripts.specs.declared.script.Call.{Call}
 use Rattle.host_scripts.specs.declared.script.Script.{Script}
 use Rattle.std.proofs.lemmas.List.{length-reverse}
-use Rattle.stripe_check.specs.declared.brief.Command.{Command}
-use Rattle.stripe_check.specs.declared.brief.Tally.{Tally}
+use Rattle.stripe_check.specs.declared.command_summary.Command.{Command}
+use Rattle.stripe_check.specs.declared.command_summary.Tally.{Tally}
 use Rattle.stripe_check.specs.declared.check.Failure.{Failure}
-use Rattle.stripe_check.specs.declared.losses.Losses.{Losses}
-use Rattle.stripe_check.specs.declared.story.Story.{Story}
+use Rattle.stripe_check.specs.declared.absent_units.Losses.{Losses}
+use Rattle.stripe_check.specs.declared.call_outcomes.Story.{Story}
 use Rattle.stripe_check.specs.Findings.{IsFound}
 use Rattle.stripe_check.specs.Folds.{AreMedia, AreCommands, AreListed, AreReads, AreFailures, AreTallies, brief_of, unknown}
-use Rattle.stripe_check.specs.Found.{any_lost, sums_to_zero, is_whole, listed_count, dirty_briefly, listed_lines, counts_line, entries_text, summary_found, replies_found}
-use Rattle.stripe_check.specs.Losing.{AreLosses}
+use Rattle.stripe_check.specs.Found.{any_lost, sums_to_zero, is_whole, dirty_briefly, listed_line, counts_line, entries_text, summary_found, replies_found}
+use Rattle.stripe_check.specs.AbsentUnits.{AreLosses}
 use Rattle.stripe_check.specs.Replies.{reply_lines, answer_line, bytes_read, failure_of}
 use Rattle.stripe_check.specs.Reports.{setting_of, dirty_line, dirty_text, absent_text, summary_in, summary_of, report_of}
 use Rattle.stripe_check.specs.Tallies.{untold, tally_of}
-use Rattle.stripe_check.specs.Sums.{unit_bytes, unit_on, sum_of, has_absent, is_zero, is_balanced, parts_on}
+use Rattle.stripe_check.specs.Sums.{unit_bytes, unit_on, sum_of, has_absent, is_balanced, parts_on}
 use Rattle.stripe_check.proofs.Counting.{same-filter, same-any, same-flat_map}
 
 -- ---- units
@@ -63,29 +66,33 @@ dirty-is : (stripe : ℕ) (o : Option Task) → dirty_briefly stripe (option_map
 dirty-is stripe None = refl
 dirty-is stripe (Some task) = refl
 
-count-from : (past : List Entry) (a : ℕ) (listed : List (Option ℕ)) → ((k : ℕ) → k < length listed → get_or listed k None ≡ listed_for (a + k) past) →
-    listed_count listed ≡ length (filter_map (λ stripe. dirty_stripe stripe (listed_for stripe past)) (numbers a (length listed)))
-count-from past a [] each = refl
-count-from past a (None ∷ listed) each =
-    let here : listed_for a past ≡ None = sym (each 0 (omega arith) ∙ ap (λ n. listed_for n past) (omega arith)) in
-    rw here (count-from past (suc a) listed (λ k lt. each (suc k) (omega arith) ∙ ap (λ n. listed_for n past) (omega arith)))
-count-from past a (Some c ∷ listed) each =
-    let here : listed_for a past ≡ Some c = sym (each 0 (omega arith) ∙ ap (λ n. listed_for n past) (omega arith)) in
-    rw here (ap suc (count-from past (suc a) listed (λ k lt. each (suc k) (omega arith) ∙ ap (λ n. listed_for n past) (omega arith))))
+count-from : (past : List Entry) (listed : List (ℕ × ℕ)) → ((k : ℕ) → command_of k listed ≡ listed_for k past) → (a n : ℕ) →
+    length (filter (λ stripe. is_some (command_of stripe listed)) (numbers a n)) ≡ length (filter_map (λ stripe. dirty_stripe stripe (listed_for stripe past)) (numbers a n))
+count-from past listed each a zero = refl
+count-from past listed each a (suc n) = by (listed_for a past) refl (count-from past listed each (suc a) n)
+  where
+    by : (o : Option ℕ) → listed_for a past ≡ o →
+        length (filter (λ stripe. is_some (command_of stripe listed)) (numbers (suc a) n)) ≡ length (filter_map (λ stripe. dirty_stripe stripe (listed_for stripe past)) (numbers (suc a) n)) →
+        length (filter (λ stripe. is_some (command_of stripe listed)) (numbers a (suc n))) ≡ length (filter_map (λ stripe. dirty_stripe stripe (listed_for stripe past)) (numbers a (suc n)))
+    by None here rest = rw (each a, here) rest
+    by (Some c) here rest = rw (each a, here) (ap suc rest)
 
-lines-from : (past : List Entry) (kept : List Command) → AreCommands past kept → (a : ℕ) (listed : List (Option ℕ)) → ((k : ℕ) → k < length listed → get_or listed k None ≡ listed_for (a + k) past) →
-    listed_lines kept a listed ≡ flat_map (dirty_line past) (filter_map (λ stripe. dirty_stripe stripe (listed_for stripe past)) (numbers a (length listed)))
-lines-from past kept are a [] each = refl
-lines-from past kept are a (None ∷ listed) each =
-    let here : listed_for a past ≡ None = sym (each 0 (omega arith) ∙ ap (λ n. listed_for n past) (omega arith)) in
-    rw here (ap (λ n. listed_lines kept n listed) (omega arith)
-    ∙ lines-from past kept are (suc a) listed (λ k lt. each (suc k) (omega arith) ∙ ap (λ n. listed_for n past) (omega arith)))
-lines-from past kept are a (Some c ∷ listed) each =
-    let here : listed_for a past ≡ Some c = sym (each 0 (omega arith) ∙ ap (λ n. listed_for n past) (omega arith)) in
-    let line : dirty_briefly a (get_or kept c unknown).brief ≡ dirty_text a (task_of c past) = ap (λ (k : Command). dirty_briefly a k.brief) (are.each c) ∙ dirty-is a (task_of c past) in
-    let rest = ap (λ n. listed_lines kept n listed) (omega arith)
-    ∙ lines-from past kept are (suc a) listed (λ k lt. each (suc k) (omega arith) ∙ ap (λ n. listed_for n past) (omega arith)) in
-    rw here (ap (λ xs. xs ++ listed_lines kept (a + 1) listed) line ∙ ap (λ xs. dirty_text a (task_of c past) ++ xs) rest)
+lines-from : (past : List Entry) (kept : List Command) → AreCommands past kept → (listed : List (ℕ × ℕ)) → ((k : ℕ) → command_of k listed ≡ listed_for k past) → (a n : ℕ) →
+    flat_map (λ stripe. listed_line kept stripe (command_of stripe listed)) (numbers a n)
+    ≡ flat_map (dirty_line past) (filter_map (λ stripe. dirty_stripe stripe (listed_for stripe past)) (numbers a n))
+lines-from past kept are listed each a zero = refl
+lines-from past kept are listed each a (suc n) = by (listed_for a past) refl (lines-from past kept are listed each (suc a) n)
+  where
+    by : (o : Option ℕ) → listed_for a past ≡ o →
+        flat_map (λ stripe. listed_line kept stripe (command_of stripe listed)) (numbers (suc a) n)
+        ≡ flat_map (dirty_line past) (filter_map (λ stripe. dirty_stripe stripe (listed_for stripe past)) (numbers (suc a) n)) →
+        flat_map (λ stripe. listed_line kept stripe (command_of stripe listed)) (numbers a (suc n))
+        ≡ flat_map (dirty_line past) (filter_map (λ stripe. dirty_stripe stripe (listed_for stripe past)) (numbers a (suc n)))
+    by None here rest = rw (each a, here) rest
+    by (Some c) here rest =
+        let line : dirty_briefly a (get_or kept c unknown).brief ≡ dirty_text a (task_of c past) = ap (λ (k : Command). dirty_briefly a k.brief) (are.each c) ∙ dirty-is a (task_of c past) in
+        rw (each a, here)
+        (ap (λ xs. xs ++ flat_map (λ stripe. listed_line kept stripe (command_of stripe listed)) (numbers (suc a) n)) line ∙ ap (λ xs. dirty_text a (task_of c past) ++ xs) rest)
 
 -- ---- all of it
 
@@ -98,17 +105,15 @@ assembled count stripes z z' l l' a a' d d' u u' p q r t v =
     ∙ ap (λ xs. entries_text count ++ (counts_line stripes z' l' a' ++ (xs ++ u))) t
     ∙ ap (λ xs. entries_text count ++ (counts_line stripes z' l' a' ++ (d' ++ xs))) v
 
-pub summary-is : (s : Setting) (past : List Entry) (kept : List (List ℕ)) (commands : List Command) (listed : List (Option ℕ)) (lost : List ℕ) (made : List (List ℕ)) →
-    AreMedia s past kept → AreCommands past commands → AreListed past listed → length listed ≡ s.geometry.stripes → AreLosses s past past lost made →
+pub summary-is : (s : Setting) (past : List Entry) (kept : List (List ℕ)) (commands : List Command) (listed : List (ℕ × ℕ)) (lost : List ℕ) (made : List (List ℕ)) →
+    AreMedia s past kept → AreCommands past commands → AreListed past listed → AreLosses s past past lost made →
     summary_found s.geometry (length past) kept commands listed lost made ≡ summary_in s past
-summary-is s past kept commands listed lost made are known dirt count losses =
-    let each : (k : ℕ) → k < length listed → get_or listed k None ≡ listed_for (0 + k) past = λ k lt. dirt.each k lt ∙ ap (λ n. listed_for n past) (omega arith) in
+summary-is s past kept commands listed lost made are known dirt losses =
     assembled (length past) s.geometry.stripes _ _ _ _ _ _ _ _ _ _
     (ap length (same-filter _ _ 0 s.geometry.stripes (λ k lt. whole-is s past kept lost made are losses k (omega arith))))
-    (count-from past 0 listed each ∙ ap (λ n. length (filter_map (λ stripe. dirty_stripe stripe (listed_for stripe past)) (numbers 0 n))) count)
+    (count-from past listed dirt.each 0 s.geometry.stripes)
     (ap length (same-filter _ _ 0 s.geometry.stripes (λ k lt. any-is s past lost made losses k (omega arith))))
-    (lines-from past commands known 0 listed each
-    ∙ ap (λ n. flat_map (dirty_line past) (filter_map (λ stripe. dirty_stripe stripe (listed_for stripe past)) (numbers 0 n))) count)
+    (lines-from past commands known listed dirt.each 0 s.geometry.stripes)
     (same-flat_map _ _ 0 s.geometry.targets (λ i lt. ap (λ n. absent_text i n)
     (ap length (same-filter _ _ 0 s.geometry.stripes (λ k lt2. losses.absent i k (omega arith) (omega arith))))))
 
@@ -130,22 +135,22 @@ replies-are g past reads failures tallies read failed tallied n (call ∷ calls)
 
 pub summary-text : (script : Script) (journal : List Entry) (s : Setting) (calls entries : ℕ) (kept : List (List ℕ)) (story : Story) (losses : Losses) (start text : List ℕ) →
     s ≡ setting_of script → IsFound s calls (reverse journal) kept story losses → entries ≡ length journal → start ≡ [] →
-    text ≡ start ++ summary_found s.geometry entries kept story.commands.items story.listed.items losses.lost.items losses.made.items →
+    text ≡ start ++ summary_found s.geometry entries kept story.commands.items story.listed losses.lost.items losses.made.items →
     text ≡ summary_of script journal
 unfolding summary_of
 summary-text script journal s calls entries kept story losses start text set found count nothing said =
     let here : entries ≡ length (reverse journal) = count ∙ sym (length-reverse journal) in
     said
-    ∙ ap (λ xs. xs ++ summary_found s.geometry entries kept story.commands.items story.listed.items losses.lost.items losses.made.items) nothing
-    ∙ ap (λ n. summary_found s.geometry n kept story.commands.items story.listed.items losses.lost.items losses.made.items) here
-    ∙ summary-is s (reverse journal) kept story.commands.items story.listed.items losses.lost.items losses.made.items
-    found.stands found.told.commands found.told.dirty found.told.listed_count found.lost
+    ∙ ap (λ xs. xs ++ summary_found s.geometry entries kept story.commands.items story.listed losses.lost.items losses.made.items) nothing
+    ∙ ap (λ n. summary_found s.geometry n kept story.commands.items story.listed losses.lost.items losses.made.items) here
+    ∙ summary-is s (reverse journal) kept story.commands.items story.listed losses.lost.items losses.made.items
+    found.stands found.told.commands found.told.dirty found.lost
     ∙ ap (λ (t : Setting). summary_in t (reverse journal)) set
 
 pub report-text : (script : Script) (journal : List Entry) (s : Setting) (calls entries : ℕ) (kept : List (List ℕ)) (story : Story) (losses : Losses) (start first text : List ℕ) →
     s ≡ setting_of script → IsFound s calls (reverse journal) kept story losses → calls ≡ length script.calls → entries ≡ length journal → start ≡ [] →
     first ≡ start ++ replies_found story.reads.items story.failures.items story.tallies.items 0 script.calls →
-    text ≡ first ++ summary_found s.geometry entries kept story.commands.items story.listed.items losses.lost.items losses.made.items →
+    text ≡ first ++ summary_found s.geometry entries kept story.commands.items story.listed losses.lost.items losses.made.items →
     text ≡ report_of script journal
 unfolding report_of summary_of
 report-text script journal s calls entries kept story losses start first text set found number count nothing answered said =
@@ -154,7 +159,7 @@ report-text script journal s calls entries kept story losses start first text se
     (omega (arith, found.told.read_count)) (omega (arith, found.told.failed_count)) (omega (arith, found.told.tallied_count)) in
     let lines = answered ∙ ap (λ xs. xs ++ replies_found story.reads.items story.failures.items story.tallies.items 0 script.calls) nothing ∙ replies in
     let rest = summary-text script journal s calls entries kept story losses []
-    (summary_found s.geometry entries kept story.commands.items story.listed.items losses.lost.items losses.made.items) set found count refl refl in
+    (summary_found s.geometry entries kept story.commands.items story.listed losses.lost.items losses.made.items) set found count refl refl in
     said
-    ∙ ap (λ xs. xs ++ summary_found s.geometry entries kept story.commands.items story.listed.items losses.lost.items losses.made.items) lines
+    ∙ ap (λ xs. xs ++ summary_found s.geometry entries kept story.commands.items story.listed losses.lost.items losses.made.items) lines
     ∙ ap (λ xs. reply_lines script.geometry (reverse journal) 1 script.calls ++ xs) rest

@@ -12,11 +12,11 @@ use Rattle.array_journal.specs.Entries.{some_at}
 use Rattle.array_journal.specs.Run.{NoneOpen}
 use Rattle.array_journal.specs.Examples.{delta_wiped, rebuilt, gathered}
 use Rattle.array_journal.specs.Readback.{folded_back}
-use Rattle.array_journal.specs.Tried.{small, tiny, write_and_read, loss_meets_a_read}
+use Rattle.array_journal.specs.ExampleJournals.{small, tiny, write_and_read, loss_meets_a_read}
 use Rattle.host_scripts.specs.declared.script.Script.{Script}
 use Rattle.stripe_check.specs.Asked.{calls_seen, is_of_host, goes_back}
 use Rattle.stripe_check.specs.Begins.{Begin, Opening, Refusal}
-use Rattle.stripe_check.specs.Worked.{script_of, write_then_read, read_and_lose, write_and_reset, hand_back_and_reset, lose_and_read, lose_and_rebuild, lose_two, refused_as, illegal_calls, illegal_refusals, WriteAndReadAsked, UnclosedUnasked, OtherBlockUnasked, OtherOrderUnasked, UnservedUnasked, GivenUpAsked, RefusedAsked, OtherReasonUnasked, RebuiltAsked, SpoiltAsked, HandedBackAsked, GatheredAsked, IllegalAsked, both_hosts, second_refused_first, EitherHostFirst, OutOfTurnUnasked, UnnotedUnasked, LossAllowed, StrangerUnasked}
+use Rattle.stripe_check.specs.AskedExamples.{script_of, write_then_read, read_and_lose, write_and_reset, hand_back_and_reset, lose_and_read, lose_and_rebuild, lose_two, refused_as, illegal_calls, illegal_refusals, WriteAndReadAsked, UnclosedUnasked, OtherBlockUnasked, OtherOrderUnasked, UnservedUnasked, GivenUpAsked, RefusedAsked, OtherReasonUnasked, RebuiltAsked, SpoiltAsked, HandedBackAsked, GatheredAsked, IllegalAsked, both_hosts, second_refused_first, EitherHostFirst, OutOfTurnUnasked, UnnotedUnasked, LossAllowed, StrangerUnasked}
 
 -- what holds of the first host and the second holds of both
 both : (P : ℕ → Type 0) → P 0 → P 1 → (host : ℕ) → host < 2 → P host

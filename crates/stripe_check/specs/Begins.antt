@@ -9,7 +9,7 @@ use Rattle.array_journal.specs.declared.event.Why.TheVariants.{Illegal, NotLost}
 use Rattle.array_journal.specs.declared.task.Kind.{Kind}
 use Rattle.array_journal.specs.declared.task.Task.{Task}
 use Rattle.array_journal.specs.Decision.{Want, WantsRebuild, WantsResync, Decision, Opens, Refuses, decision}
-use Rattle.array_journal.specs.Lists.{slice}
+use Rattle.blocks_core.specs.Lists.{slice}
 use Rattle.array_journal.specs.Lives.{is_unfitted}
 use Rattle.host_scripts.specs.declared.script.Call.{Call}
 use Rattle.host_scripts.specs.declared.script.Script.{Script}

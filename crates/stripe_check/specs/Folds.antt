@@ -5,16 +5,16 @@ use Rattle.array_journal.specs.declared.entry.Entry.{Entry}
 use Rattle.array_journal.specs.declared.setting.Setting.{Setting}
 use Rattle.stripe_layout.specs.declared.geometry.Geometry.{Geometry}
 use Rattle.array_journal.specs.declared.task.Kind.{Kind}
-use Rattle.array_journal.specs.declared.task.Kind.TheVariants.{Rebuild, Resync}
 use Rattle.array_journal.specs.declared.task.Task.{Task}
 use Rattle.array_journal.specs.Commands.{task_of}
 use Rattle.array_journal.specs.Entries.{some_at}
-use Rattle.array_journal.specs.Listed.{listed_for}
+use Rattle.array_journal.specs.Listed.{listed_for, makes_parity}
+use Rattle.dirty_list.specs.Listings.{command_of}
 use Rattle.array_journal.specs.Lives.{closes_done, is_rebuild}
 use Rattle.array_journal.specs.Media.{media}
-use Rattle.stripe_check.specs.declared.brief.Brief.{Brief}
-use Rattle.stripe_check.specs.declared.brief.Command.{Command}
-use Rattle.stripe_check.specs.declared.brief.Tally.{Tally}
+use Rattle.stripe_check.specs.declared.command_summary.Brief.{Brief}
+use Rattle.stripe_check.specs.declared.command_summary.Command.{Command}
+use Rattle.stripe_check.specs.declared.command_summary.Tally.{Tally}
 use Rattle.stripe_check.specs.declared.check.Failure.{Failure}
 use Rattle.stripe_check.specs.Replies.{bytes_read, failure_of}
 use Rattle.stripe_check.specs.Tallies.{untold, tally_of}
@@ -26,7 +26,7 @@ pub record AreMedia (s : Setting) (past : List Entry) (kept : List (List ℕ)) :
 
 -- what a report needs of a task
 abbrev pub brief_of : Task → Brief
-brief_of t = record { call = t.call; piece = t.piece; kind = t.kind; stripe = t.stripe; target = t.target; parity = t.parity }
+brief_of t = record { call = t.call; piece = t.piece; kind = t.kind; stripe = t.stripe; target = t.target; renews = makes_parity t.kind t }
 
 -- a command that wasn't opened
 abbrev pub unknown : Command
@@ -64,15 +64,9 @@ pub record AreFailures (past : List Entry) (kept : List (Option Failure)) : Type
 pub record AreTallies (past : List Entry) (kept : List Tally) : Type 0 where
   pub each : (n : ℕ) → n < length kept → get_or kept n untold ≡ tally_of (n + 1) past
 
--- a command makes the parity of its stripe anew
-abbrev pub briefly_renews : Kind → Brief → Bool
-briefly_renews Resync b = true
-briefly_renews Rebuild b = b.target == b.parity
-briefly_renews _ b = false
-
--- the command that each stripe is listed for
-pub record AreListed (past : List Entry) (kept : List (Option ℕ)) : Type 0 where
-  pub each : (stripe : ℕ) → stripe < length kept → get_or kept stripe None ≡ listed_for stripe past
+-- the stripes that are listed, each with its command
+pub record AreListed (past : List Entry) (kept : List (ℕ × ℕ)) : Type 0 where
+  pub each : (stripe : ℕ) → command_of stripe kept ≡ listed_for stripe past
 
 -- the stripe whose unit of target i a command rebuilt
 abbrev pub briefly_rebuilt_by : Option Brief → Bool → ℕ → Option ℕ

@@ -1,22 +1,22 @@
 -- The summary, by what was kept while a journal was read.
 use Rattle.std.specs.Prelude.{ℕ, ◌+◌, ◌*◌, ◌&&◌, not, is_some, Bool, List, [], ◌∷◌, ◌++◌, length, get_or, filter, Option, Some, None, codes}
 use Rattle.std.specs.List.{flat_map, list_any}
-use Rattle.blocks_core.specs.Xor.{xor_all}
+use Rattle.blocks_core.specs.Xor.{xor_all, is_zero}
 use Rattle.stripe_layout.specs.declared.geometry.Geometry.{Geometry}
+use Rattle.dirty_list.specs.Listings.{command_of}
 use Rattle.array_journal.specs.Lists.{numbers}
 use Rattle.host_scripts.specs.declared.script.Call.{Call}
-use Rattle.host_scripts.specs.Scripts.{line}
-use Rattle.stripe_check.specs.declared.brief.Brief.{Brief}
-use Rattle.stripe_check.specs.declared.brief.Command.{Command}
-use Rattle.stripe_check.specs.declared.brief.Tally.{Tally}
+use Rattle.text_fields.specs.Spelling.{line, counted}
+use Rattle.stripe_check.specs.declared.command_summary.Brief.{Brief}
+use Rattle.stripe_check.specs.declared.command_summary.Command.{Command}
+use Rattle.stripe_check.specs.declared.command_summary.Tally.{Tally}
 use Rattle.stripe_check.specs.declared.check.Failure.{Failure}
 use Rattle.stripe_check.specs.Folds.{unknown}
-use Rattle.stripe_check.specs.Losing.{is_lost}
+use Rattle.stripe_check.specs.AbsentUnits.{is_lost}
 use Rattle.stripe_check.specs.Reports.{absent_text}
 use Rattle.stripe_check.specs.Replies.{answer_line}
-use Rattle.stripe_check.specs.Sums.{unit_bytes, is_zero, parts_on}
+use Rattle.stripe_check.specs.Sums.{unit_bytes, parts_on}
 use Rattle.stripe_check.specs.Tallies.{untold}
-use Rattle.stripe_check.specs.Texts.{counted}
 
 -- some unit of a stripe was lost
 abbrev pub any_lost : List ℕ → List (List ℕ) → ℕ → ℕ → Bool
@@ -46,8 +46,8 @@ abbrev pub zero_stripes : Geometry → List (List ℕ) → List ℕ → List (Li
 zero_stripes g media lost made stripes = length (filter (is_whole g media lost made) (numbers 0 stripes))
 
 -- how many stripes are listed
-abbrev pub listed_count : List (Option ℕ) → ℕ
-listed_count listed = length (filter (λ (o : Option ℕ). is_some o) listed)
+abbrev pub listed_count : List (ℕ × ℕ) → ℕ → ℕ
+listed_count listed stripes = length (filter (λ stripe. is_some (command_of stripe listed)) (numbers 0 stripes))
 
 -- the line of a listed stripe
 abbrev pub dirty_briefly : ℕ → Option Brief → List ℕ
@@ -58,10 +58,9 @@ abbrev pub listed_line : List Command → ℕ → Option ℕ → List ℕ
 listed_line kept stripe None = []
 listed_line kept stripe (Some c) = dirty_briefly stripe (get_or kept c unknown).brief
 
--- the lines of the listed stripes from one on
-abbrev pub listed_lines : List Command → ℕ → List (Option ℕ) → List ℕ
-listed_lines kept stripe [] = []
-listed_lines kept stripe (o ∷ listed) = listed_line kept stripe o ++ listed_lines kept (stripe + 1) listed
+-- the lines of the listed stripes
+abbrev pub listed_lines : List Command → List (ℕ × ℕ) → ℕ → List ℕ
+listed_lines kept listed stripes = flat_map (λ stripe. listed_line kept stripe (command_of stripe listed)) (numbers 0 stripes)
 
 -- the lines of the targets with lost units
 abbrev pub lost_lines : List ℕ → List (List ℕ) → ℕ → ℕ → List ℕ
@@ -75,11 +74,11 @@ counts_line stripes zeros listed absent =
 abbrev pub entries_text : ℕ → List ℕ
 entries_text count = line (counted (codes "entries") count [])
 
-abbrev pub summary_found : Geometry → ℕ → List (List ℕ) → List Command → List (Option ℕ) → List ℕ → List (List ℕ) → List ℕ
+abbrev pub summary_found : Geometry → ℕ → List (List ℕ) → List Command → List (ℕ × ℕ) → List ℕ → List (List ℕ) → List ℕ
 summary_found g count media kept listed lost made =
     entries_text count
-    ++ (counts_line g.stripes (zero_stripes g media lost made g.stripes) (listed_count listed) (lost_stripes lost made g.targets g.stripes)
-    ++ (listed_lines kept 0 listed
+    ++ (counts_line g.stripes (zero_stripes g media lost made g.stripes) (listed_count listed g.stripes) (lost_stripes lost made g.targets g.stripes)
+    ++ (listed_lines kept listed g.stripes
     ++ lost_lines lost made g.targets g.stripes))
 
 -- the answers to calls, by what was kept of those behind n of them

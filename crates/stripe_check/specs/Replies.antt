@@ -16,13 +16,13 @@ use Rattle.array_journal.specs.Host.{HostItem, ReadItem, WroteItem, RefusedItem,
 use Rattle.host_scripts.specs.declared.script.Action.{Action}
 use Rattle.host_scripts.specs.declared.script.Action.TheVariants.{Read, Write, Fill, Raw, Lose, Reset, DropNext, Replace, Rebuild, Resync}
 use Rattle.host_scripts.specs.declared.script.Call.{Call}
-use Rattle.host_scripts.specs.Scripts.{line, hex, letter}
-use Rattle.stripe_check.specs.declared.brief.Tally.{Tally}
+use Rattle.text_fields.specs.Spelling.{line, hex, upper_nibble, upper_byte, counted}
+use Rattle.host_scripts.specs.Scripts.{letter}
+use Rattle.stripe_check.specs.declared.command_summary.Tally.{Tally}
 use Rattle.stripe_check.specs.declared.check.Check.{Check}
 use Rattle.stripe_check.specs.declared.check.Failure.{Failure}
 use Rattle.stripe_check.specs.declared.check.Failure.TheVariants.{Refused, Spoilt}
 use Rattle.stripe_check.specs.Tallies.{is_of_call, tally_of}
-use Rattle.stripe_check.specs.Texts.{upper_nibble, upper_byte, counted}
 
 -- the bytes that an item tells a call
 abbrev pub told_bytes : ℕ → HostItem → List ℕ

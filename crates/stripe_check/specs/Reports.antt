@@ -8,10 +8,9 @@ use Rattle.array_journal.specs.Commands.{task_of}
 use Rattle.array_journal.specs.Listed.{Dirty, dirty}
 use Rattle.array_journal.specs.Lists.{numbers}
 use Rattle.host_scripts.specs.declared.script.Script.{Script}
-use Rattle.host_scripts.specs.Scripts.{line}
+use Rattle.text_fields.specs.Spelling.{line, counted}
 use Rattle.stripe_check.specs.Replies.{reply_lines}
 use Rattle.stripe_check.specs.Sums.{stripes_that, has_absent, is_balanced, absent_units}
-use Rattle.stripe_check.specs.Texts.{counted}
 
 -- what a script sets an array to
 abbrev pub setting_of : Script → Setting

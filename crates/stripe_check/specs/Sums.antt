@@ -1,11 +1,12 @@
 -- What the units of a stripe come to, and which stripes have lost one.
-use Rattle.std.specs.Prelude.{ℕ, ◌*◌, ◌==◌, ◌&&◌, not, Bool, List, length, map, filter}
-use Rattle.std.specs.List.{list_all, list_any}
-use Rattle.blocks_core.specs.Xor.{xor_all}
+use Rattle.std.specs.Prelude.{ℕ, ◌*◌, ◌&&◌, not, Bool, List, length, map, filter}
+use Rattle.std.specs.List.{list_any}
+use Rattle.blocks_core.specs.Xor.{xor_all, is_zero}
 use Rattle.stripe_layout.specs.declared.geometry.Geometry.{Geometry}
 use Rattle.array_journal.specs.declared.entry.Entry.{Entry}
 use Rattle.array_journal.specs.declared.setting.Setting.{Setting}
-use Rattle.array_journal.specs.Lists.{numbers, slice}
+use Rattle.blocks_core.specs.Lists.{slice}
+use Rattle.array_journal.specs.Lists.{numbers}
 use Rattle.array_journal.specs.Media.{rows_on}
 use Rattle.array_journal.specs.Lives.{is_absent}
 
@@ -24,9 +25,6 @@ sum_of s past stripe = xor_all (unit_bytes s.geometry) (map (unit_on s past stri
 -- so many bytes from a place on, of each medium
 abbrev pub parts_on : ℕ → ℕ → List (List ℕ) → List (List ℕ)
 parts_on at len media = map (λ m. slice m at len) media
-
-abbrev pub is_zero : List ℕ → Bool
-is_zero bytes = list_all (λ b. b == 0) bytes
 
 -- the targets whose unit of a stripe is absent
 abbrev pub has_absent : Setting → List Entry → ℕ → Bool

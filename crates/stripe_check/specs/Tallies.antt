@@ -8,7 +8,7 @@ use Rattle.array_journal.specs.declared.event.Why.{Why}
 use Rattle.array_journal.specs.declared.event.Why.TheVariants.{Illegal, Medium, NotReady, Unfitted, Present, Listed, Second, Clean, Absent, NotLost}
 use Rattle.array_journal.specs.declared.task.Task.{Task}
 use Rattle.array_journal.specs.Commands.{task_of}
-use Rattle.stripe_check.specs.declared.brief.Tally.{Tally}
+use Rattle.stripe_check.specs.declared.command_summary.Tally.{Tally}
 
 -- A piece that is refused for this reason is left as it is: it wanted a rebuild or a resync and couldn't have it. A unit
 -- that is present and a stripe that is clean want none.

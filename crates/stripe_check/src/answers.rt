@@ -6,8 +6,8 @@ ghost use Rattle.array_journal.specs.declared.entry.Entry.{Entry};
 ghost use Rattle.array_journal.specs.Host.{is_read, is_degraded_read};
 ghost use Rattle.stripe_check.specs.Folds.{AreCommands, AreReads, AreFailures, told_if};
 
-use crate::brief::{Brief, Command};
 use crate::check::Failure;
+use crate::command_summary::{Brief, Command};
 use crate::commands::command_at;
 use array_journal::{Entry, Event, Kind};
 use blocks_core::{Bytes, Memory};
@@ -18,6 +18,8 @@ fn add_read(reads: &mut Vec<Bytes>, call: u32, bytes: &[u8]) -> Result<(), Memor
     ensures each { OnOk result ((n : ℕ) → n < length reads.old.items → get_or reads.new.items n [] ≡ get_or reads.old.items n [] ++ (if call == n + 1 then bytes.now else [])) }
 {
     let number = call as usize;
+    // A journal that isn't what the calls ask for may name any call: bytes of one that isn't there are told
+    // to nobody.
     if number == 0 || number > reads.len() {
         return Ok(());
     }

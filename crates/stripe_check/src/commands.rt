@@ -4,7 +4,7 @@ ghost use Rattle.std.specs.Prelude.{◌≡◌, ◌+◌, ◌≤◌, ◌<◌, ℕ,
 ghost use Rattle.array_journal.specs.declared.entry.Entry.{Entry};
 ghost use Rattle.stripe_check.specs.Folds.{brief_of, unknown, opened_at, closed_at, AreCommands};
 
-use crate::brief::{Brief, Command};
+use crate::command_summary::{Brief, Command};
 use array_journal::{Entry, Event, Task};
 use blocks_core::Memory;
 
@@ -23,18 +23,20 @@ fn brief_of(task: &Task) -> Brief
         kind: task.kind,
         stripe: task.stripe,
         target: task.target,
-        parity: task.parity,
+        renews: task.makes_parity(),
     }
 }
 
-/// What is known of a command.
+/// What is known of a command: nothing of one that no entry tells of.
 pub fn command_at(commands: &[Command], number: u32) -> Command
     ensures { result ≡ get_or commands.now number unknown }
 {
     commands.get(number as usize).copied().unwrap_or(UNKNOWN)
 }
 
-/// Makes room for a command, of which nothing is known yet.
+/// Makes room for a command, of which nothing is known yet. In a run numbers go up by one, and this adds
+/// one place. A journal that is no run may name any number: the table is then as long as that, or memory
+/// runs out.
 fn reach(commands: &mut Vec<Command>, number: usize) -> Result<(), Memory>
     requires { number < 4294967296 }
     ensures same { OnOk result ((c : ℕ) → get_or commands.new.items c unknown ≡ get_or commands.old.items c unknown) }

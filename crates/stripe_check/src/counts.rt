@@ -1,19 +1,21 @@
 //! The lines of a report behind the answers.
 
-ghost use Rattle.std.specs.Prelude.{◌≡◌, ◌++◌, OnOk, IfOk};
+ghost use Rattle.std.specs.Prelude.{◌≡◌, ◌++◌, OnOk, IfOk, is_some};
+ghost use Rattle.dirty_list.specs.Listings.{command_of};
 ghost use Rattle.stripe_layout.specs.Layout.{IsArray};
 ghost use Rattle.stripe_check.specs.Found.{any_lost, lost_stripes, lost_units, stripe_total, sums_to_zero, is_whole, zero_stripes, listed_count, dirty_briefly, listed_line, listed_lines, lost_lines, counts_line, entries_text};
 ghost use Rattle.stripe_check.specs.Reports.{absent_text};
 
-use crate::brief::{Brief, Command};
+use crate::absent_units::Losses;
+use crate::command_summary::{Brief, Command};
 use crate::commands::command_at;
-use crate::losses::Losses;
-use crate::medium::Medium;
+use crate::medium::ReplayedMedium;
 use crate::sums::parts_sum;
-use crate::text::push_counted;
-use blocks_core::{Bytes, Memory};
+use blocks_core::{Bytes, Memory, XorSum};
+use dirty_list::DirtyList;
 use std::alloc::Global;
 use stripe_layout::Geometry;
+use text_fields::push_counted;
 
 /// Whether some unit of a stripe was lost.
 fn is_any_lost(losses: &Losses, targets: u8, stripe: u32) -> bool
@@ -44,9 +46,9 @@ pub fn count_lost(losses: &Losses, geometry: &Geometry) -> u32
 pub fn stripe_sum(
     alloc: Global,
     geometry: &Geometry,
-    media: &[Medium],
+    media: &[ReplayedMedium],
     stripe: u32,
-) -> Result<Medium, Memory>
+) -> Result<XorSum, Memory>
     requires { IsArray geometry.now }
     ensures { IfOk result (λ sum. sum ≡ stripe_total geometry.now media.now stripe) }
 {
@@ -55,11 +57,10 @@ pub fn stripe_sum(
     parts_sum(alloc, media, stripe as usize * unit * block, unit * block)
 }
 
-/// Whether it is zero.
 fn is_sum_zero(
     alloc: Global,
     geometry: &Geometry,
-    media: &[Medium],
+    media: &[ReplayedMedium],
     stripe: u32,
 ) -> Result<bool, Memory>
     requires { IsArray geometry.now }
@@ -73,7 +74,7 @@ fn is_sum_zero(
 fn is_whole(
     alloc: Global,
     geometry: &Geometry,
-    media: &[Medium],
+    media: &[ReplayedMedium],
     losses: &Losses,
     stripe: u32,
 ) -> Result<bool, Memory>
@@ -90,7 +91,7 @@ fn is_whole(
 pub fn count_zero(
     alloc: Global,
     geometry: &Geometry,
-    media: &[Medium],
+    media: &[ReplayedMedium],
     losses: &Losses,
 ) -> Result<u32, Memory>
     requires { IsArray geometry.now }
@@ -106,11 +107,23 @@ pub fn count_zero(
     Ok(count)
 }
 
-/// How many stripes are listed.
-pub fn count_listed(listed: &[Option<u32>]) -> usize
-    ensures { result ≡ listed_count listed.now }
+fn is_listed(listed: &DirtyList, stripe: u32) -> bool
+    ensures { result ≡ is_some (command_of stripe listed.now) }
 {
-    listed.iter().filter(|command| command.is_some()).count()
+    listed.find(stripe).is_some()
+}
+
+/// How many stripes are listed.
+pub fn count_listed(listed: &DirtyList, stripes: u32) -> u32
+    ensures { result ≡ listed_count listed.now stripes }
+{
+    let mut count = 0;
+    for stripe in 0..stripes {
+        if is_listed(listed, stripe) {
+            count += 1;
+        }
+    }
+    count
 }
 
 /// How many units a target lost.
@@ -137,22 +150,22 @@ pub fn push_counts(
     text: &mut Bytes,
     stripes: u32,
     zero: u32,
-    listed: usize,
+    listed: u32,
     absent: u32,
 ) -> Result<(), Memory>
     ensures { OnOk result (text.new ≡ text.old ++ counts_line stripes zero listed absent) }
 {
     push_counted(text, b"stripes", u64::from(stripes))?;
     push_counted(text, b" zero", u64::from(zero))?;
-    push_counted(text, b" listed", listed as u64)?;
+    push_counted(text, b" listed", u64::from(listed))?;
     push_counted(text, b" absent", u64::from(absent))?;
     text.push(b'\n')
 }
 
-fn push_dirty(text: &mut Bytes, stripe: usize, brief: &Brief) -> Result<(), Memory>
+fn push_dirty(text: &mut Bytes, stripe: u32, brief: &Brief) -> Result<(), Memory>
     ensures { OnOk result (text.new ≡ text.old ++ dirty_briefly stripe (Some brief.now)) }
 {
-    push_counted(text, b"dirty", stripe as u64)?;
+    push_counted(text, b"dirty", u64::from(stripe))?;
     push_counted(text, b" call", u64::from(brief.call))?;
     push_counted(text, b" piece", u64::from(brief.piece))?;
     text.push(b'\n')
@@ -162,7 +175,7 @@ fn push_dirty(text: &mut Bytes, stripe: usize, brief: &Brief) -> Result<(), Memo
 fn push_listed(
     text: &mut Bytes,
     commands: &[Command],
-    stripe: usize,
+    stripe: u32,
     listed: Option<u32>,
 ) -> Result<(), Memory>
     ensures { OnOk result (text.new ≡ text.old ++ listed_line commands.now stripe listed) }
@@ -180,12 +193,13 @@ fn push_listed(
 pub fn push_all_listed(
     text: &mut Bytes,
     commands: &[Command],
-    listed: &[Option<u32>],
+    listed: &DirtyList,
+    stripes: u32,
 ) -> Result<(), Memory>
-    ensures { OnOk result (text.new ≡ text.old ++ listed_lines commands.now 0 listed.now) }
+    ensures { OnOk result (text.new ≡ text.old ++ listed_lines commands.now listed.now stripes) }
 {
-    for (stripe, command) in listed.iter().enumerate() {
-        push_listed(text, commands, stripe, *command)?;
+    for stripe in 0..stripes {
+        push_listed(text, commands, stripe, listed.find(stripe))?;
     }
     Ok(())
 }

@@ -1,29 +1,25 @@
 //! Reports of runs: what each call of a script was answered, and what the journal leaves on the media.
 #![tactic(auto)]
 
+mod absent_units;
 mod answers;
-mod brief;
+pub mod asked_examples;
+mod call_outcomes;
 mod check;
+mod command_summary;
 mod commands;
 mod counts;
-mod fields;
 mod listed;
-mod losses;
 mod media;
 mod medium;
 mod places;
 mod reply;
 mod reports;
-mod story;
 mod sums;
 mod tallies;
-mod text;
-mod traces;
-pub mod worked;
 
 pub use check::{Check, Failure};
+pub use journal_text::trace;
 pub use media::{first_media, write_entry, write_event};
-pub use medium::Medium;
+pub use medium::ReplayedMedium;
 pub use reports::{report, sum, summary};
-pub use text::{push_counted, push_hex, push_number, push_upper_byte, upper_nibble};
-pub use traces::trace;

@@ -7,13 +7,13 @@ ghost use Rattle.array_journal.specs.Media.{medium_after, media};
 ghost use Rattle.array_journal.specs.declared.entry.Entry.{Entry};
 ghost use Rattle.stripe_check.specs.Folds.{AreMedia};
 
-use crate::medium::Medium;
+use crate::medium::ReplayedMedium;
 use array_journal::{Entry, Event, Journal, Setting};
 use blocks_core::Memory;
 use std::alloc::Global;
 use stripe_layout::Geometry;
 
-/// The bytes of all rows of a target.
+/// How many bytes all rows of a target have.
 fn medium_size(geometry: &Geometry) -> usize
     requires { IsArray geometry.now }
     ensures { result ≡ rows_of geometry.now * geometry.now.block }
@@ -24,7 +24,7 @@ fn medium_size(geometry: &Geometry) -> usize
 /// What an event at a target does to its medium.
 pub fn write_event(
     alloc: Global,
-    medium: &mut Medium,
+    medium: &mut ReplayedMedium,
     setting: &Setting,
     event: &Event,
 ) -> Result<(), Memory>
@@ -39,7 +39,8 @@ pub fn write_event(
         }
         Event::Fold { row, bytes, .. } => medium.fold(*row as usize * block, bytes.as_slice()),
         Event::Fresh { .. } => {
-            *medium = Medium::zeros(alloc, medium_size(&setting.geometry))?;
+            // The new medium is made first: where memory for it is wanting, the old one stands as it was.
+            *medium = ReplayedMedium::zeros(alloc, medium_size(&setting.geometry))?;
             Ok(())
         }
         _ => Ok(()),
@@ -49,7 +50,7 @@ pub fn write_event(
 /// What an entry does to the media: that of lock i + 1 is target i's.
 pub fn write_entry(
     alloc: Global,
-    media: &mut Vec<Medium>,
+    media: &mut Vec<ReplayedMedium>,
     setting: &Setting,
     entry: &Entry,
 ) -> Result<(), Memory>
@@ -58,6 +59,7 @@ pub fn write_entry(
     ensures err { OnErr result (media.new.items ≡ media.old.items) }
 {
     let lock = usize::from(entry.lock);
+    // A journal that is no run may name any lock.
     if lock == 0 || lock > media.len() {
         return Ok(());
     }
@@ -65,19 +67,23 @@ pub fn write_entry(
 }
 
 /// The media before any entry.
-pub fn first_media(alloc: Global, setting: &Setting) -> Result<Vec<Medium>, Memory>
+pub fn first_media(alloc: Global, setting: &Setting) -> Result<Vec<ReplayedMedium>, Memory>
     requires { IsArray setting.now.geometry }
     ensures { IfOk result (λ m. AreMedia setting.now [] m.items) }
 {
     let mut media = Vec::new(alloc);
     for _ in 0..setting.geometry.targets {
-        media.push(Medium::zeros(alloc, medium_size(&setting.geometry))?)?;
+        media.push(ReplayedMedium::zeros(alloc, medium_size(&setting.geometry))?)?;
     }
     Ok(media)
 }
 
 /// The media after all entries of a journal.
-pub fn media_of(alloc: Global, setting: &Setting, journal: &Journal) -> Result<Vec<Medium>, Memory>
+pub fn media_of(
+    alloc: Global,
+    setting: &Setting,
+    journal: &Journal,
+) -> Result<Vec<ReplayedMedium>, Memory>
     requires { IsArray setting.now.geometry }
     ensures { IfOk result (λ m. AreMedia setting.now (reverse journal.now) m.items) }
 {

@@ -1,21 +1,20 @@
-//! What one target's medium holds, as far as a journal is read.
+//! What one target's medium holds, as far as a journal is replayed.
 
-ghost use Rattle.std.specs.Prelude.{◌≡◌, ◌+◌, ◌*◌, ◌≤◌, ◌<◌, ◌^◌, ◌++◌, length, OnOk, OnErr, IfOk};
+ghost use Rattle.std.specs.Prelude.{◌≡◌, ◌+◌, ◌≤◌, ◌++◌, length, OnOk, OnErr, IfOk};
 ghost use Rattle.blocks_core.specs.Xor.{xor, zeros};
-ghost use Rattle.array_journal.specs.Lists.{slice, put};
-ghost use Rattle.stripe_check.specs.Sums.{is_zero};
+ghost use Rattle.blocks_core.specs.Lists.{slice, put};
 
-use blocks_core::{Bytes, Memory, xor_into};
+use blocks_core::{Memory, xor_into};
 use std::alloc::Global;
 use std::marker::Model;
 
-/// Bytes of a medium, from row 0 on.
+/// Bytes of a medium that a journal is replayed on, from row 0 on.
 #[derive(Drop)]
-pub struct Medium {
+pub struct ReplayedMedium {
     kept: Vec<u8>,
 }
 
-impl Model for Medium {
+impl Model for ReplayedMedium {
     ghost use Rattle.std.specs.Prelude.{List, ℕ};
 
     ghost Value = { List ℕ };
@@ -23,12 +22,12 @@ impl Model for Medium {
     ghost view = { λ m. m.kept.items };
 }
 
-impl Medium {
+impl ReplayedMedium {
     /// So many zeros.
-    pub fn zeros(alloc: Global, size: usize) -> Result<Medium, Memory>
+    pub fn zeros(alloc: Global, size: usize) -> Result<ReplayedMedium, Memory>
         ensures { IfOk result (λ m. m ≡ zeros size) }
     {
-        Ok(Medium {
+        Ok(ReplayedMedium {
             kept: vec![in alloc; 0u8; size]?,
         })
     }
@@ -40,29 +39,6 @@ impl Medium {
     {
         let start = at.min(self.kept.len());
         &self.kept[start..start + len.min(self.kept.len() - start)]
-    }
-
-    /// Puts the exclusive-or of both in place of the first bytes.
-    pub fn add(&mut self, bytes: &[u8])
-        requires { length bytes.now ≤ length self.old }
-        ensures { self.new ≡ xor self.old bytes.now }
-    {
-        self.fold_within(0, bytes);
-    }
-
-    /// Whether all bytes are zero.
-    pub fn is_zero(&self) -> bool
-        ensures { result ≡ is_zero self.now }
-    {
-        self.kept.iter().all(|byte| *byte == 0)
-    }
-
-    /// The bytes themselves, without taking memory.
-    pub fn into_bytes(self) -> Bytes
-        ensures { result ≡ self }
-    {
-        let Medium { kept } = self;
-        Bytes::from_vec(kept)
     }
 
     /// Puts bytes over those from a place on.
@@ -105,7 +81,6 @@ impl Medium {
         xor_into(&mut self.kept[at..at + bytes.len()], bytes);
     }
 
-    /// Puts bytes behind all others.
     fn append(&mut self, bytes: &[u8]) -> Result<(), Memory>
         ensures ok { OnOk result (self.new ≡ self.old ++ bytes.now) }
         ensures err { OnErr result (self.new ≡ self.old) }

@@ -12,17 +12,17 @@ ghost use Rattle.stripe_check.specs.Reports.{setting_of, summary_of, report_of};
 ghost use Rattle.stripe_check.specs.Sums.{sum_of};
 ghost use Rattle.stripe_check.specs.Tallies.{untold};
 
-use crate::brief::Tally;
+use crate::absent_units::{Losses, losses_of};
+use crate::call_outcomes::{Story, story_of};
 use crate::check::Failure;
+use crate::command_summary::Tally;
 use crate::counts::{
     count_listed, count_lost, count_zero, push_all_absent, push_all_listed, push_counts,
     push_entries, stripe_sum,
 };
-use crate::losses::{Losses, losses_of};
 use crate::media::media_of;
-use crate::medium::Medium;
+use crate::medium::ReplayedMedium;
 use crate::reply::push_reply;
-use crate::story::{Story, story_of};
 use array_journal::{Journal, Setting};
 use blocks_core::{Bytes, Memory};
 use host_scripts::{Call, Script};
@@ -32,7 +32,7 @@ use stripe_layout::{Geometry, Mode};
 /// What a report needs of a journal.
 #[derive(Drop)]
 struct Findings {
-    media: Vec<Medium>,
+    media: Vec<ReplayedMedium>,
     story: Story,
     losses: Losses,
 }
@@ -48,7 +48,7 @@ fn found_in(
     ensures { IfOk result (λ f. IsFound setting.now calls (reverse journal.now) f.media.items f.story f.losses) }
 {
     let media = media_of(alloc, setting, journal)?;
-    let story = story_of(alloc, calls, setting.geometry.stripes as usize, journal)?;
+    let story = story_of(alloc, calls, journal)?;
     let losses = losses_of(alloc, &setting.geometry, &story.commands, journal)?;
     Ok(Findings {
         media,
@@ -98,7 +98,6 @@ fn tally_at(tallies: &[Tally], place: usize) -> Tally
     }
 }
 
-/// A line for each call.
 fn push_replies(text: &mut Bytes, calls: &[Call], story: &Story) -> Result<(), Memory>
     requires { AllByRecursion (λ (call : Call). call.host < 26) calls.now }
     ensures { OnOk result (text.new ≡ text.old ++ replies_found story.now.reads.items story.now.failures.items story.now.tallies.items 0 calls.now) }
@@ -127,15 +126,20 @@ fn push_summary(
     found: &Findings,
 ) -> Result<(), Memory>
     requires { IsArray setting.now.geometry }
-    ensures { OnOk result (text.new ≡ text.old ++ summary_found setting.now.geometry entries found.now.media.items found.now.story.commands.items found.now.story.listed.items found.now.losses.lost.items found.now.losses.made.items) }
+    ensures { OnOk result (text.new ≡ text.old ++ summary_found setting.now.geometry entries found.now.media.items found.now.story.commands.items found.now.story.listed found.now.losses.lost.items found.now.losses.made.items) }
 {
     let geometry = &setting.geometry;
     let zero = count_zero(alloc, geometry, &found.media, &found.losses)?;
-    let listed = count_listed(&found.story.listed);
+    let listed = count_listed(&found.story.listed, geometry.stripes);
     let absent = count_lost(&found.losses, geometry);
     push_entries(text, entries as u64)?;
     push_counts(text, geometry.stripes, zero, listed, absent)?;
-    push_all_listed(text, &found.story.commands, &found.story.listed)?;
+    push_all_listed(
+        text,
+        &found.story.commands,
+        &found.story.listed,
+        geometry.stripes,
+    )?;
     push_all_absent(text, &found.losses, geometry)
 }
 
@@ -177,6 +181,8 @@ pub fn sum(
     requires { IsArray geometry.now }
     ensures { IfOk result (λ bytes. (s : Setting) → s.geometry ≡ geometry.now → bytes ≡ sum_of s (reverse journal.now) stripe) }
 {
+    // Media don't hang on buffer or mode: any setting of this shape gives the same sum, which is what the
+    // clause says.
     let setting = Setting {
         geometry: *geometry,
         buffer: geometry.unit,

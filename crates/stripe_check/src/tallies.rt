@@ -5,7 +5,7 @@ ghost use Rattle.array_journal.specs.declared.entry.Entry.{Entry};
 ghost use Rattle.stripe_check.specs.Folds.{AreCommands, AreTallies};
 ghost use Rattle.stripe_check.specs.Tallies.{is_left, untold, more_done, more_left};
 
-use crate::brief::{Command, Tally};
+use crate::command_summary::{Command, Tally};
 use crate::commands::command_at;
 use array_journal::{Entry, Event, Why};
 use blocks_core::Memory;

@@ -1,5 +1,5 @@
 use Rattle.std.proofs.Common.{◌≡◌, true, false, sym, arith, ◌∙◌}
-use Rattle.stripe_check.specs.Losing.{is_lost}
+use Rattle.stripe_check.specs.AbsentUnits.{is_lost}
 use Rattle.stripe_check.proofs.Counting.{filter-here, filter-else}
 use Rattle.stripe_check.proofs.counts.count_units.Goals as goal
 use Rattle.stripe_check.proofs.counts.count_units.Goals.{then-is_absent, else-is_absent}

@@ -1,5 +1,5 @@
 use Rattle.std.proofs.Common.{◌≡◌, true, false, sym, ◌∙◌}
-use Rattle.stripe_check.specs.Losing.{is_lost}
+use Rattle.stripe_check.specs.AbsentUnits.{is_lost}
 use Rattle.stripe_check.proofs.Counting.{any-here, any-more}
 use Rattle.stripe_check.proofs.counts.is_any_lost.Goals as goal
 

@@ -1,0 +1,11 @@
+pub mod Numerals
+pub mod Loops
+pub mod Leaves
+pub mod Parts
+pub mod WordLaws
+pub mod ListLaws
+pub mod SenseLaws
+pub mod EventLaws
+pub mod EntryLaws
+pub mod TraceLaws
+pub mod InRange

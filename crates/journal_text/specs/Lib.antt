@@ -1,0 +1,10 @@
+pub mod Traces
+pub mod Steps
+pub mod Cdbs
+pub mod Words
+pub mod Senses
+pub mod Lists
+pub mod Readable
+pub mod Lines
+pub mod Journals
+pub mod Told

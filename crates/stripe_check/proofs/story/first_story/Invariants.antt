@@ -1,5 +1,0 @@
-use Rattle.std.proofs.Common.{◌≡◌, [], replicate}
-use Rattle.stripe_check.proofs.story.first_story.Given as goal
-
-abbrev pub invariant-loop : goal.invariant-loop
-invariant-loop l = l.reads.items ≡ replicate l.counter []
