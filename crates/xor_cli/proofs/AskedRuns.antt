@@ -17,10 +17,10 @@ use Rattle.array_journal.specs.declared.task.Task.{Task}
 use Rattle.array_journal.specs.Commands.{open_count}
 use Rattle.array_journal.specs.Calm.{Calm, Quiet}
 use Rattle.array_journal.specs.Run.{IsSetting, NoneOpen}
-use Rattle.array_journal.proofs.GuardedRuns.{guarded_law}
-use Rattle.array_journal.proofs.KeptRuns.{conserved_law}
-use Rattle.array_journal.proofs.Opening.{read-decided, update-decided}
-use Rattle.array_journal.proofs.ReadsRight.{legal_law}
+use Rattle.array_journal.proofs.runs.GuardedRuns.{guarded_law}
+use Rattle.array_journal.proofs.owed.KeptRuns.{conserved_law}
+use Rattle.array_journal.proofs.calm.Opening.{read-decided, update-decided}
+use Rattle.array_journal.proofs.reads.ReadsRight.{legal_law}
 use Rattle.stripe_check.specs.Asked.{IsAskedOf, IsServed as IsCallServed, goes_back, is_of_host, calls_seen}
 use Rattle.stripe_check.specs.Begins.{Opening}
 use Rattle.stripe_check.specs.Jobs.{job_of, call_at, reading, writing, Transfer}

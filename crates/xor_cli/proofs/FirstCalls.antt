@@ -19,8 +19,8 @@ use Rattle.array_journal.specs.declared.task.Kind.TheVariants.{Read, Update}
 use Rattle.array_journal.specs.May.{IsTask, IsTaskOfKind}
 use Rattle.array_journal.specs.declared.entry.Entry.{Entry}
 use Rattle.array_journal.specs.Run.{IsSetting}
-use Rattle.array_journal.proofs.CalmServed.{calm-none}
-use Rattle.array_journal.proofs.LayoutLaws.{target_of-other}
+use Rattle.array_journal.proofs.calm.CalmServed.{calm-none}
+use Rattle.array_journal.proofs.sums.LayoutLaws.{target_of-other}
 use Rattle.xor_cli.specs.Tasks.{task_at, CanServe}
 use Rattle.xor_cli.proofs.Today.{CanRun, CanCall, CanDo}
 use Rattle.xor_cli.specs.Disks.{Disk}

@@ -11,10 +11,10 @@ use Rattle.host_scripts.proofs.OneRefusal.{one-refusal}
 use Rattle.xor_cli.specs.declared.refusals.Reason.{Reason}
 use Rattle.xor_cli.specs.declared.refusals.Reason.TheVariants as reasons
 use Rattle.xor_cli.specs.declared.refusals.Refusal.{Refusal}
-use Rattle.xor_cli.specs.declared.refusals.Excess.{Excess}
-use Rattle.xor_cli.specs.declared.refusals.Excess.TheVariants as excesses
+use Rattle.program_status.specs.declared.notes.Excess.{Excess}
+use Rattle.program_status.specs.declared.notes.Excess.TheVariants as excesses
 use Rattle.xor_cli.specs.RefusalTexts.{reason_of}
-use Rattle.xor_cli.specs.Later.{first_later}
+use Rattle.xor_cli.specs.Unsupported.{first_later}
 use Rattle.outer_io.specs.Outside.{input_limit}
 use Rattle.xor_cli.specs.Inputs.{IsAccepted, IsUnspelt, IsRefusedFor, IsRefused, IsLater, IsExcess}
 use Rattle.xor_cli.specs.Statuses.{later_refusal}

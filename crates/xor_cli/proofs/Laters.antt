@@ -13,7 +13,7 @@ use Rattle.stripe_check.specs.Cuts.{most_blocks}
 use Rattle.stripe_check.specs.Reports.{setting_of}
 use Rattle.xor_cli.specs.Inputs.{IsRunnable}
 use Rattle.xor_cli.specs.Headline.{IsStart}
-use Rattle.xor_cli.specs.Later.{can_serve_in, is_one_piece, can_do, can_call, later_call}
+use Rattle.xor_cli.specs.Unsupported.{can_serve_in, is_one_piece, can_do, can_call, later_call}
 use Rattle.xor_cli.proofs.Today.{AreOnePiece, CanDo, CanCall, CanRun}
 
 -- nothing is left where the choice says so

@@ -8,14 +8,14 @@ use Rattle.array_journal.specs.declared.event.Event.TheVariants.{Fetch, Open, Cl
 use Rattle.array_journal.specs.declared.setting.Setting.{Setting}
 use Rattle.array_journal.specs.declared.task.Task.{Task}
 use Rattle.array_journal.specs.declared.task.Kind.TheVariants.{Read}
-use Rattle.array_journal.specs.Lists.{slice}
+use Rattle.blocks_core.specs.Lists.{slice}
 use Rattle.array_journal.specs.Commands.{open_count}
 use Rattle.array_journal.specs.Acts.{Fetches, cdb_of}
 use Rattle.array_journal.specs.Media.{media}
 use Rattle.array_journal.specs.Calm.{Calm}
 use Rattle.array_journal.specs.Serving.{read_entries}
-use Rattle.array_journal.proofs.ReadRuns.{read-media, read-count}
-use Rattle.array_journal.proofs.CalmServed.{calm-read}
+use Rattle.array_journal.proofs.calm.ReadRuns.{read-media, read-count}
+use Rattle.array_journal.proofs.calm.CalmServed.{calm-read}
 use Rattle.xor_cli.specs.Arrays.{Array}
 use Rattle.xor_cli.specs.declared.array.controller.Served.{Served}
 use Rattle.xor_cli.specs.Disks.{disk_of}

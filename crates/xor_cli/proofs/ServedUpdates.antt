@@ -9,17 +9,17 @@ use Rattle.array_journal.specs.declared.entry.Entry.{Entry}
 use Rattle.array_journal.specs.declared.setting.Setting.{Setting}
 use Rattle.array_journal.specs.declared.task.Task.{Task}
 use Rattle.array_journal.specs.declared.task.Kind.TheVariants.{Update}
-use Rattle.array_journal.specs.Lists.{slice, put}
+use Rattle.blocks_core.specs.Lists.{slice, put}
 use Rattle.array_journal.specs.Commands.{open_count}
 use Rattle.array_journal.specs.Acts.{Diffs, Takes, Folds, cdb_of}
 use Rattle.array_journal.specs.Media.{media}
 use Rattle.array_journal.specs.Calm.{Calm}
 use Rattle.array_journal.specs.Serving.{update_entries, update_delta}
-use Rattle.array_journal.proofs.UpdateSteps.{diff-medium, diff-other, fold-medium, fold-other, close-media}
-use Rattle.array_journal.proofs.UpdateRuns.{CanUpdate, update-task, length-update_delta}
-use Rattle.array_journal.proofs.UpdateQuiet.{update-count}
-use Rattle.array_journal.proofs.LayoutLaws.{parity_of-below}
-use Rattle.array_journal.proofs.CalmServed.{calm-update}
+use Rattle.array_journal.proofs.calm.UpdateSteps.{diff-medium, diff-other, fold-medium, fold-other, close-media}
+use Rattle.array_journal.proofs.calm.UpdateRuns.{CanUpdate, update-task, length-update_delta}
+use Rattle.array_journal.proofs.calm.UpdateQuiet.{update-count}
+use Rattle.array_journal.proofs.sums.LayoutLaws.{parity_of-below}
+use Rattle.array_journal.proofs.calm.CalmServed.{calm-update}
 use Rattle.xor_cli.specs.Arrays.{Array}
 use Rattle.xor_cli.specs.Disks.{Disk, disk_of}
 use Rattle.xor_cli.specs.Serving.{next_at}

@@ -6,7 +6,7 @@ use Rattle.array_journal.specs.declared.setting.Setting.{Setting}
 use Rattle.array_journal.specs.declared.task.Task.{Task}
 use Rattle.array_journal.specs.May.{IsTask}
 use Rattle.array_journal.specs.Run.{IsSetting}
-use Rattle.array_journal.proofs.TaskPlaces.{rows-fit, rows-fit_bytes}
+use Rattle.array_journal.proofs.held.TaskPlaces.{rows-fit, rows-fit_bytes}
 use Rattle.xor_cli.specs.Arrays.{Array}
 use Rattle.xor_cli.specs.Disks.{disk_of, IsOnDisk}
 use Rattle.xor_cli.specs.Rest.{IsAtRest}

@@ -10,15 +10,15 @@ use Rattle.array_journal.specs.declared.event.Event.TheVariants.{Diff, Take, Fol
 use Rattle.array_journal.specs.declared.setting.Setting.{Setting}
 use Rattle.array_journal.specs.declared.task.Task.{Task}
 use Rattle.array_journal.specs.declared.task.Kind.TheVariants.{Update}
-use Rattle.array_journal.specs.Lists.{slice}
+use Rattle.blocks_core.specs.Lists.{slice}
 use Rattle.stripe_layout.specs.Layout.{parity_of}
 use Rattle.sbc_cdbs.specs.declared.commands.Command.TheVariants as sbc
 use Rattle.sbc_cdbs.specs.Cdbs.{Spells}
 use Rattle.array_journal.specs.Acts.{task_bytes, diff_command, cdb_of, Diffs}
 use Rattle.array_journal.specs.May.{IsTask}
 use Rattle.array_journal.specs.Serving.{update_delta}
-use Rattle.array_journal.proofs.UpdateRuns.{CanUpdate, update-task, length-update_delta}
-use Rattle.array_journal.proofs.LayoutLaws.{parity_of-below}
+use Rattle.array_journal.proofs.calm.UpdateRuns.{CanUpdate, update-task, length-update_delta}
+use Rattle.array_journal.proofs.sums.LayoutLaws.{parity_of-below}
 use Rattle.xor_cli.specs.Arrays.{Array}
 use Rattle.xor_cli.specs.declared.array.controller.Served.{Served}
 use Rattle.xor_cli.specs.Disks.{Disk, disk_of, IsOnDisk, with_diff, with_take, with_fold}

@@ -10,7 +10,7 @@ use Rattle.array_journal.specs.declared.setting.Setting.{Setting}
 use Rattle.array_journal.specs.declared.task.Task.{Task}
 use Rattle.array_journal.specs.Commands.{open_count}
 use Rattle.array_journal.specs.Serving.{update_entries, update_delta}
-use Rattle.array_journal.specs.Lists.{slice, put}
+use Rattle.blocks_core.specs.Lists.{slice, put}
 use Rattle.xor_cli.specs.Disks.{Disk, disk_of, with_diff, with_take, with_fold}
 use Rattle.xor_cli.specs.Serving.{next_at, with_next}
 use Rattle.xor_cli.proofs.Journals.{reverse-with_next, length-with_next}

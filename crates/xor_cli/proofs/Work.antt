@@ -8,23 +8,25 @@ use Rattle.host_scripts.specs.declared.script.Cause.{Cause}
 use Rattle.host_scripts.specs.declared.script.Cause.TheVariants as causes
 use Rattle.host_scripts.specs.Limits.{limit_of}
 use Rattle.host_scripts.specs.Refusals.{IsRefusal}
-use Rattle.xor_cli.specs.declared.endings.Stop.{Stop}
-use Rattle.xor_cli.specs.declared.endings.Stop.TheVariants.{Usage, ReadFault, Refused, Exceeded, Memory}
+use Rattle.program_status.specs.declared.stops.Stop.{Stop}
+use Rattle.program_status.specs.declared.stops.Stop.TheVariants.{Usage, ReadFault, Found, Memory}
+use Rattle.xor_cli.specs.declared.findings.Finding.{Finding}
+use Rattle.xor_cli.specs.declared.findings.Finding.TheVariants.{Refused, Exceeded, Undecodable}
 use Rattle.xor_cli.specs.declared.decoding.faults.Fault.{Fault}
 use Rattle.xor_cli.specs.declared.decoding.values.Format.{Format}
 use Rattle.xor_cli.specs.declared.decoding.values.Value.{Value}
 use Rattle.xor_cli.specs.declared.refusals.Reason.{Reason}
 use Rattle.xor_cli.specs.declared.refusals.Refusal.{Refusal}
-use Rattle.xor_cli.specs.declared.refusals.Excess.{Excess}
-use Rattle.xor_cli.specs.declared.refusals.Excess.TheVariants as excesses
+use Rattle.program_status.specs.declared.notes.Excess.{Excess}
+use Rattle.program_status.specs.declared.notes.Excess.TheVariants as excesses
 use Rattle.xor_cli.specs.declared.words.Command.TheVariants.{Step}
 use Rattle.xor_cli.specs.Decoding.{IsValue, IsFault}
-use Rattle.xor_cli.specs.RefusalTexts.{reason_of, refusal_line}
+use Rattle.xor_cli.specs.RefusalTexts.{reason_of}
 use Rattle.xor_cli.specs.Words.{Spells}
-use Rattle.xor_cli.specs.Later.{first_later}
+use Rattle.xor_cli.specs.Unsupported.{first_later}
 use Rattle.xor_cli.specs.Inputs.{IsSpelt, IsAccepted, IsRefused, IsExcess}
 use Rattle.outer_io.specs.Outside.{input_limit}
-use Rattle.xor_cli.specs.Statuses.{StopsFor, StopsStep, StopsRun, StopsScript, IsStopWith, IsLeftBy, later_refusal}
+use Rattle.xor_cli.specs.Statuses.{StopsFor, StopsStep, StopsRun, StopsScript, IsFoundIn, IsFoundAhead, IsStopOf, IsLeftBy, later_refusal}
 use Rattle.xor_cli.proofs.Inputs.{refused-bound}
 
 -- ---- from what was read to what the source had left
@@ -49,29 +51,36 @@ excess-left None bytes excess e is = tt
 excess-left (Some all) bytes excesses.Input e is = let n : length bytes ≡ length (take (input_limit + 1) all) = ap length e in omega (arith, length-take (input_limit + 1) all, n, is)
 excess-left (Some all) bytes (excesses.Script limit) e is = left-whole (Some all) bytes (λ b. IsExcess b (excesses.Script limit)) is.1.0.0 e is
 
+-- what is found of the bytes that were read is found of all that the source had
+found-left : (left : Option (List ℕ)) (bytes : List ℕ) (finding : Finding) → IfSome left (λ all. bytes ≡ take (input_limit + 1) all) → IsFoundIn bytes finding → IsFoundAhead left finding
+found-left left bytes (Refused refusal) e is = refused-left left bytes refusal e is
+found-left left bytes (Exceeded excess) e is = excess-left left bytes excess e is
+found-left left bytes (Undecodable fault) e is = absurd is
+
 -- what stops a run of the bytes that were read stops a run of the source
-pub stops-step : (left : Option (List ℕ)) (bytes : List ℕ) (before after : ℕ) (stop : Stop) → IfSome left (λ all. bytes ≡ take (input_limit + 1) all) → StopsRun bytes stop → StopsStep left before after stop
+pub stops-step : (left : Option (List ℕ)) (bytes : List ℕ) (before after : ℕ) (stop : Stop Finding) → IfSome left (λ all. bytes ≡ take (input_limit + 1) all) → StopsRun bytes stop → StopsStep left before after stop
 stops-step left bytes before after Usage e s = absurd s
 stops-step left bytes before after ReadFault e s = absurd s
-stops-step left bytes before after (Refused note) e s = (s.0, (refused-left left bytes s.0 e s.1.0, s.1.1))
-stops-step left bytes before after (Exceeded excess) e s = excess-left left bytes excess e s
+stops-step left bytes before after (Found finding note) e s = (found-left left bytes finding e s.0, s.1)
 stops-step left bytes before after Memory e s = tt
 
 -- where the bytes that were read aren't too many, they are all that the source had; what stops a run of them leaves nothing
-pub stops-left : (left : Option (List ℕ)) (bytes : List ℕ) (stop : Stop) → (length bytes ≤ input_limit → IsAtEnd left) → StopsRun bytes stop → IsLeftBy stop left
+pub stops-left : (left : Option (List ℕ)) (bytes : List ℕ) (stop : Stop Finding) → (length bytes ≤ input_limit → IsAtEnd left) → StopsRun bytes stop → IsLeftBy stop left
 stops-left left bytes Usage end s = tt
 stops-left left bytes ReadFault end s = tt
-stops-left left bytes (Refused note) end s = end (refused-bound bytes s.0.line s.0.reason s.1.0)
-stops-left left bytes (Exceeded excesses.Input) end s = tt
-stops-left left bytes (Exceeded (excesses.Script limit)) end s = end s.1.0.0
+stops-left left bytes (Found (Refused refusal) note) end s = end (refused-bound bytes refusal.line refusal.reason s.0)
+stops-left left bytes (Found (Exceeded excesses.Input) note) end s = tt
+stops-left left bytes (Found (Exceeded (excesses.Script limit)) note) end s = end s.0.1.0.0
+stops-left left bytes (Found (Undecodable fault) note) end s = tt
 stops-left left bytes Memory end s = tt
 
 -- what stops a run of the source stops the command
-pub stops-for : (words : List (List ℕ)) (traced : Bool) (left : Option (List ℕ)) (before after : ℕ) (stop : Stop) → Spells words (Step traced) → StopsStep left before after stop → StopsFor words left before after stop
+pub stops-for : (words : List (List ℕ)) (traced : Bool) (left : Option (List ℕ)) (before after : ℕ) (stop : Stop Finding) → Spells words (Step traced) → StopsStep left before after stop → StopsFor words left before after stop
 stops-for words traced left before after Usage w s = absurd s
 stops-for words traced left before after ReadFault w s = ((traced, w), s)
-stops-for words traced left before after (Refused note) w s = inl (s.0, ((traced, w), s.1.0, s.1.1))
-stops-for words traced left before after (Exceeded excess) w s = ((traced, w), s)
+stops-for words traced left before after (Found (Refused refusal) note) w s = (((traced, w), s.0), s.1)
+stops-for words traced left before after (Found (Exceeded excess) note) w s = (((traced, w), s.0), s.1)
+stops-for words traced left before after (Found (Undecodable fault) note) w s = absurd s.0
 stops-for words traced left before after Memory w s = (Step traced, w)
 
 -- ---- what stops a part
@@ -82,27 +91,28 @@ unspelt-refused input number causes.Form bound r = (bound, r)
 unspelt-refused input number causes.Range bound r = (bound, r)
 unspelt-refused input number causes.Size bound r = (bound, r)
 
-pub stop-unspelt : (input : List ℕ) (number other : ℕ) (cause : Cause) (reason : Reason) (stop : Stop) → length input ≤ input_limit → IsRefusal input number cause → other ≡ number → reason ≡ reason_of cause → IsStopWith (refusal_line (record { line = other; reason = reason })) stop → StopsRun input stop
+pub stop-unspelt : (input : List ℕ) (number other : ℕ) (cause : Cause) (reason : Reason) (stop : Stop Finding) → length input ≤ input_limit → IsRefusal input number cause → other ≡ number → reason ≡ reason_of cause → IsStopOf (Refused (record { line = other; reason = reason })) stop → StopsRun input stop
 stop-unspelt input number other cause reason stop bound r n c (inl e) =
-    let refusal : Refusal = record { line = number; reason = reason_of cause } in
     let P : ℕ → Type 0 = λ m. IsRefused input (record { line = m; reason = reason_of cause }) in
     let Q : Reason → Type 0 = λ x. IsRefused input (record { line = other; reason = x }) in
     let is : IsRefused input (record { line = other; reason = reason }) = subst Q (sym c) (subst P (sym n) (unspelt-refused input number cause bound r)) in
-    subst (StopsRun input) (sym e) (record { line = other; reason = reason }, (is, refl))
+    subst (StopsRun input) (sym e) (is, refl)
 stop-unspelt input number other cause reason stop bound r n c (inr e) = subst (StopsRun input) (sym e) tt
 
 -- so does a line that can't be run yet
-pub stop-later : (script : Script) (number : ℕ) (stop : Stop) → limit_of script ≡ None → first_later script ≡ Some number → IsStopWith (refusal_line (later_refusal number)) stop → StopsScript script stop
-stop-later script number stop over later (inl e) = subst (StopsScript script) (sym e) (number, (over, later, refl))
+pub stop-later : (script : Script) (number : ℕ) (stop : Stop Finding) → limit_of script ≡ None → first_later script ≡ Some number → IsStopOf (Refused (later_refusal number)) stop → StopsScript script stop
+stop-later script number stop over later (inl e) = subst (StopsScript script) (sym e) ((number, (over, later, refl)), refl)
 stop-later script number stop over later (inr e) = subst (StopsScript script) (sym e) tt
 
 -- what stops a script stops its bytes
-pub stop-script : (input : List ℕ) (script : Script) (stop : Stop) → IsSpelt input script → StopsScript script stop → StopsRun input stop
+pub stop-script : (input : List ℕ) (script : Script) (stop : Stop Finding) → IsSpelt input script → StopsScript script stop → StopsRun input stop
 stop-script input script Usage spelt s = absurd s
 stop-script input script ReadFault spelt s = absurd s
-stop-script input script (Refused note) spelt s = (later_refusal s.0, ((script, (spelt, s.1.0, s.1.1)), s.1.2))
-stop-script input script (Exceeded excess) spelt s =
-    let P : Excess → Type 0 = λ x. IsExcess input x in subst P (sym s.1.1) (script, (spelt, s.1.0))
+stop-script input script (Found (Refused refusal) note) spelt (found, said) =
+    let P : Refusal → Type 0 = λ x. IsRefused input x in (subst P (sym found.1.2) (script, (spelt, found.1.0, found.1.1)), said)
+stop-script input script (Found (Exceeded excess) note) spelt (found, said) =
+    let P : Excess → Type 0 = λ x. IsExcess input x in (subst P (sym found.1.1) (script, (spelt, found.1.0)), said)
+stop-script input script (Found (Undecodable fault) note) spelt s = absurd s.0
 stop-script input script Memory spelt s = tt
 
 -- ---- decoding

@@ -2,8 +2,7 @@
 use Rattle.std.specs.Prelude.{ℕ, Bool, List, [], ◌∷◌, ◌++◌, length, codes, if◌then◌else◌, Option, Some, None}
 use Rattle.std.specs.List.{flat_map}
 use Rattle.std.specs.Fmt.{decimal}
-use Rattle.host_scripts.specs.Scripts.{line, hex}
-use Rattle.stripe_check.specs.Texts.{upper_nibble, upper_byte}
+use Rattle.text_fields.specs.Spelling.{line, hex, upper_nibble, upper_byte}
 use Rattle.sbc_cdbs.specs.declared.commands.Command.{Command}
 use Rattle.sbc_cdbs.specs.declared.commands.Command.TheVariants.{Read, Write, XdWrite, XpWrite, XdRead, XdWriteRead, ModeSelect, ModeSense, XdWriteExtended, Rebuild, Regenerate}
 use Rattle.sense_data.specs.declared.senses.Pointer.{Pointer}

@@ -2,7 +2,7 @@
 use Rattle.std.specs.Prelude.{ℕ, ◌+◌, ◌<◌, ◌≤◌, List, [], length, slice_index_or, slice_set}
 use Rattle.blocks_core.specs.Xor.{xor}
 use Rattle.array_journal.specs.declared.entry.Entry.{Entry}
-use Rattle.array_journal.specs.Lists.{slice, put}
+use Rattle.blocks_core.specs.Lists.{slice, put}
 
 pub record Disk : Type 0 where
   pub medium : List ℕ

@@ -1,28 +1,24 @@
 -- How a command ends, and why.
-use Rattle.std.specs.Prelude.{ℕ, ◌≡◌, ◌⊎◌, Bool, true, false, List, [], ◌∷◌, ◌++◌, Option, IfSome}
+use Rattle.std.specs.Prelude.{ℕ, ◌≡◌, ◌⊎◌, Bool, true, false, List, [], ◌++◌, Option, IfSome}
 use Rattle.std.specs.Io.KnownBytes.{Appends}
 use Rattle.host_scripts.specs.declared.script.Script.{Script}
 use Rattle.array_journal.specs.declared.entry.Entry.{Entry}
 use Rattle.stripe_check.specs.Reports.{report_of}
-use Rattle.stripe_check.specs.Traces.{trace_of}
+use Rattle.journal_text.specs.Traces.{trace_of}
 use Rattle.xor_cli.specs.declared.decoding.faults.Fault.{Fault}
 use Rattle.xor_cli.specs.declared.decoding.values.Format.{Format}
 use Rattle.xor_cli.specs.declared.decoding.values.Value.{Value}
 use Rattle.xor_cli.specs.declared.refusals.Refusal.{Refusal}
-use Rattle.xor_cli.specs.declared.refusals.Excess.{Excess}
+use Rattle.program_status.specs.declared.notes.Excess.{Excess}
+use Rattle.program_status.specs.Notes.{excess_line}
+use Rattle.program_status.specs.Endings.{GainsOne, GainsPrefix}
 use Rattle.xor_cli.specs.declared.words.Command.TheVariants.{Step, Decode}
 use Rattle.xor_cli.specs.Decoding.{IsValue, IsFault}
 use Rattle.xor_cli.specs.DecodeTexts.{value_line, fault_line}
-use Rattle.xor_cli.specs.RefusalTexts.{refusal_line, excess_line}
+use Rattle.xor_cli.specs.RefusalTexts.{refusal_line}
 use Rattle.xor_cli.specs.Inputs.{IsRunnable, IsAccepted, IsRefused, IsExcess}
-use Rattle.outer_io.specs.Outside.{AppendsPrefix}
 use Rattle.xor_cli.specs.Words.{Spells, IsStep}
 use Rattle.xor_cli.specs.Headline.{IsJournalOf}
-
--- a number is one of these
-abbrev pub IsOneOf : List ℕ → ℕ → Type 0
-IsOneOf [] n = ⊥
-IsOneOf (m ∷ ms) n = (n ≡ m) ⊎ IsOneOf ms n
 
 -- ---- what is written
 
@@ -60,11 +56,11 @@ IsOutput words input journal text = IsReport words input journal text ⊎ IsValu
 
 -- out has gained it
 abbrev pub IsDone : List (List ℕ) → Option (List ℕ) → Option (List ℕ) → Option (List ℕ) → List Entry → Type 0
-IsDone words input before after journal = (text : List ℕ) × (IsOutput words input journal text × Appends before after text)
+IsDone words input before after journal = GainsOne (IsOutput words input journal) before after
 
 -- out has gained a beginning of it
 abbrev pub IsCutShort : List (List ℕ) → Option (List ℕ) → Option (List ℕ) → Option (List ℕ) → List Entry → Type 0
-IsCutShort words input before after journal = (text : List ℕ) × (IsOutput words input journal text × AppendsPrefix before after text)
+IsCutShort words input before after journal = GainsPrefix (IsOutput words input journal) before after
 
 -- ---- what is noted
 

@@ -11,9 +11,9 @@ use Rattle.outer_io.specs.Outside.{input_limit}
 use Rattle.xor_cli.specs.declared.refusals.Reason.{Reason}
 use Rattle.xor_cli.specs.declared.refusals.Reason.TheVariants as reasons
 use Rattle.xor_cli.specs.declared.refusals.Refusal.{Refusal}
-use Rattle.xor_cli.specs.declared.refusals.Excess.{Excess}
-use Rattle.xor_cli.specs.declared.refusals.Excess.TheVariants as excesses
-use Rattle.xor_cli.specs.Later.{first_later}
+use Rattle.program_status.specs.declared.notes.Excess.{Excess}
+use Rattle.program_status.specs.declared.notes.Excess.TheVariants as excesses
+use Rattle.xor_cli.specs.Unsupported.{first_later}
 
 -- the input is no longer than that, and spells this script
 abbrev pub IsSpelt : List ℕ → Script → Type 0

@@ -8,11 +8,10 @@ pub mod Headline
 pub mod Inputs
 pub mod Endings
 pub mod Statuses
-pub mod Faults
 pub mod Disks
 pub mod OneJournal
 pub mod Arrays
 pub mod Serving
 pub mod Tasks
 pub mod Rest
-pub mod Later
+pub mod Unsupported

@@ -1,119 +1,128 @@
--- How commands end, and what stops one before it writes.
-use Rattle.std.specs.Prelude.{ℕ, ◌≡◌, ◌⊎◌, ◌==◌, Bool, List, [], codes, Option, Some, None, IfSome, if◌then◌else◌}
+-- What stops a command before it writes.
+use Rattle.std.specs.Prelude.{ℕ, ◌≡◌, Bool, List, [], Option, Some, None, IfSome}
 use Rattle.std.specs.Io.KnownBytes.{IsAtEnd}
 use Rattle.host_scripts.specs.declared.script.Script.{Script}
 use Rattle.host_scripts.specs.declared.script.Limit.{Limit}
-use Rattle.host_scripts.specs.Scripts.{line}
 use Rattle.host_scripts.specs.Limits.{limit_of}
 use Rattle.array_journal.specs.declared.entry.Entry.{Entry}
-use Rattle.xor_cli.specs.declared.decoding.faults.Fault.{Fault}
+use Rattle.outer_io.specs.Outside.{AppendsPrefix}
+use Rattle.program_status.specs.declared.notes.Excess.TheVariants as excesses
+use Rattle.program_status.specs.declared.status.Verdict.{Verdict}
+use Rattle.program_status.specs.declared.status.Verdict.TheVariants as verdicts
+use Rattle.program_status.specs.declared.stops.Stop.{Stop}
+use Rattle.program_status.specs.declared.stops.Stop.TheVariants.{Usage, ReadFault, Found, Memory}
+use Rattle.program_status.specs.Notes.{excess_line}
+use Rattle.program_status.specs.Stops as stops
+use Rattle.program_status.specs.Stops.{note_of}
+use Rattle.program_status.specs.Endings.{StopsBy, StopsReading, StopsProgram}
 use Rattle.xor_cli.specs.declared.decoding.values.Format.{Format}
 use Rattle.xor_cli.specs.declared.decoding.values.Value.{Value}
-use Rattle.xor_cli.specs.declared.endings.Ending.{Ending}
-use Rattle.xor_cli.specs.declared.endings.Ending.TheVariants.{Done, Stopped, WriteFault}
-use Rattle.xor_cli.specs.declared.endings.Stop.{Stop}
-use Rattle.xor_cli.specs.declared.endings.Stop.TheVariants.{Usage, ReadFault, Refused, Exceeded, Memory}
+use Rattle.xor_cli.specs.declared.findings.Finding.{Finding}
+use Rattle.xor_cli.specs.declared.findings.Finding.TheVariants.{Refused, Exceeded, Undecodable}
 use Rattle.xor_cli.specs.declared.refusals.Reason.TheVariants as reasons
 use Rattle.xor_cli.specs.declared.refusals.Refusal.{Refusal}
-use Rattle.xor_cli.specs.declared.refusals.Excess.TheVariants as excesses
-use Rattle.outer_io.specs.Outside.{HasRisen, AppendsPrefix}
 use Rattle.xor_cli.specs.Words.{SpellsNone, IsStep, IsCommand}
 use Rattle.xor_cli.specs.Decoding.{IsFault}
 use Rattle.xor_cli.specs.DecodeTexts.{value_line, fault_line}
-use Rattle.xor_cli.specs.RefusalTexts.{refusal_line, excess_line}
-use Rattle.xor_cli.specs.Later.{first_later}
+use Rattle.xor_cli.specs.RefusalTexts.{refusal_line}
+use Rattle.xor_cli.specs.Unsupported.{first_later}
 use Rattle.xor_cli.specs.Inputs.{IsRefused, IsExcess}
 use Rattle.xor_cli.specs.Headline.{IsJournalOf}
-use Rattle.xor_cli.specs.Endings.{IsRefusal, step_text}
+use Rattle.xor_cli.specs.Endings.{HasFault, step_text}
 
--- the number that a process ends with
-abbrev pub status_of : Ending → ℕ
-status_of Done = 0
-status_of (Stopped (Refused note)) = 2
-status_of (Stopped ReadFault) = 3
-status_of WriteFault = 4
-status_of (Stopped Memory) = 5
-status_of (Stopped (Exceeded excess)) = 7
-status_of (Stopped Usage) = 64
+-- ---- what is found, and how that is said
 
--- the line of notes that goes with what stops a command
-abbrev pub note_of : Stop → List ℕ
-note_of Usage = line (codes "usage")
-note_of ReadFault = line (codes "read fault")
-note_of (Refused note) = note
-note_of (Exceeded excess) = excess_line excess
-note_of Memory = line (codes "no memory")
+abbrev pub verdict_of : Finding → Verdict
+verdict_of (Refused refusal) = verdicts.Refused
+verdict_of (Exceeded excess) = verdicts.Exceeded
+verdict_of (Undecodable fault) = verdicts.Refused
 
--- the line of notes that goes with a status, other than those of refusals and limits; none goes with success
-abbrev pub noted_for : ℕ → List ℕ
-noted_for status =
-    if status == 64 then note_of Usage
-    else if status == 3 then note_of ReadFault
-    else if status == 5 then note_of Memory
-    else []
+abbrev pub finding_line : Finding → List ℕ
+finding_line (Refused refusal) = refusal_line refusal
+finding_line (Exceeded excess) = excess_line excess
+finding_line (Undecodable fault) = fault_line fault
 
--- a refusal with this line, or want of memory for it
-abbrev pub IsStopWith : List ℕ → Stop → Type 0
-IsStopWith note stop = (stop ≡ Refused note) ⊎ (stop ≡ Memory)
+-- want of memory, or this finding with its line
+abbrev pub IsStopOf : Finding → Stop Finding → Type 0
+IsStopOf finding stop = stops.IsStopOf finding_line finding stop
 
 -- the refusal of a line that can't be run yet
 abbrev pub later_refusal : ℕ → Refusal
 later_refusal number = record { line = number; reason = reasons.Later }
 
--- what there is in the input and the source's count of faults that stops a run of a script
-abbrev pub StopsStep : Option (List ℕ) → ℕ → ℕ → Stop → Type 0
-StopsStep input before after Usage = ⊥
-StopsStep input before after ReadFault = HasRisen before after
-StopsStep input before after (Refused note) = (refusal : Refusal) × (IfSome input (λ bytes. IsRefused bytes refusal) × (note ≡ refusal_line refusal))
-StopsStep input before after (Exceeded excess) = IfSome input (λ bytes. IsExcess bytes excess)
-StopsStep input before after Memory = Unit {0}
+-- ---- of what this is found
 
--- what there is in bytes that were read that stops a run of them
-abbrev pub StopsRun : List ℕ → Stop → Type 0
-StopsRun bytes Usage = ⊥
-StopsRun bytes ReadFault = ⊥
-StopsRun bytes (Refused note) = (refusal : Refusal) × (IsRefused bytes refusal × (note ≡ refusal_line refusal))
-StopsRun bytes (Exceeded excess) = IsExcess bytes excess
-StopsRun bytes Memory = Unit {0}
+-- of bytes that were to be run
+abbrev pub IsFoundIn : List ℕ → Finding → Type 0
+IsFoundIn bytes (Refused refusal) = IsRefused bytes refusal
+IsFoundIn bytes (Exceeded excess) = IsExcess bytes excess
+IsFoundIn bytes (Undecodable fault) = ⊥
 
--- what there is in a script that stops its run
-abbrev pub StopsScript : Script → Stop → Type 0
-StopsScript script Usage = ⊥
-StopsScript script ReadFault = ⊥
-StopsScript script (Refused note) =
-    (number : ℕ) × ((limit_of script ≡ None) × (first_later script ≡ Some number) × (note ≡ refusal_line (later_refusal number)))
-StopsScript script (Exceeded excess) = (limit : Limit) × ((limit_of script ≡ Some limit) × (excess ≡ excesses.Script limit))
-StopsScript script Memory = Unit {0}
+-- of an input that was to be run, where its bytes are known
+abbrev pub IsFoundAhead : Option (List ℕ) → Finding → Type 0
+IsFoundAhead input (Refused refusal) = IfSome input (λ bytes. IsRefused bytes refusal)
+IsFoundAhead input (Exceeded excess) = IfSome input (λ bytes. IsExcess bytes excess)
+IsFoundAhead input (Undecodable fault) = ⊥
 
--- what there is in bytes that stops their decoding
-abbrev pub StopsDecode : Format → List ℕ → Stop → Type 0
-StopsDecode format bytes Usage = ⊥
-StopsDecode format bytes ReadFault = ⊥
-StopsDecode format bytes (Refused note) = (fault : Fault) × (IsFault format bytes fault × (note ≡ fault_line fault))
-StopsDecode format bytes (Exceeded excess) = ⊥
-StopsDecode format bytes Memory = Unit {0}
+-- of a script
+abbrev pub IsFoundOf : Script → Finding → Type 0
+IsFoundOf script (Refused refusal) =
+    (number : ℕ) × ((limit_of script ≡ None) × (first_later script ≡ Some number) × (refusal ≡ later_refusal number))
+IsFoundOf script (Exceeded excess) = (limit : Limit) × ((limit_of script ≡ Some limit) × (excess ≡ excesses.Script limit))
+IsFoundOf script (Undecodable fault) = ⊥
 
--- what there is in the words besides that stops a command
-abbrev pub StopsFor : List (List ℕ) → Option (List ℕ) → ℕ → ℕ → Stop → Type 0
-StopsFor words input before after Usage = SpellsNone words
-StopsFor words input before after ReadFault = IsStep words × HasRisen before after
-StopsFor words input before after (Refused note) = IsRefusal words input note
-StopsFor words input before after (Exceeded excess) = IsStep words × IfSome input (λ bytes. IsExcess bytes excess)
-StopsFor words input before after Memory = IsCommand words
+-- of bytes to decode
+abbrev pub IsFoundAs : Format → List ℕ → Finding → Type 0
+IsFoundAs format bytes (Refused refusal) = ⊥
+IsFoundAs format bytes (Exceeded excess) = ⊥
+IsFoundAs format bytes (Undecodable fault) = IsFault format bytes fault
 
--- what is left of the input of a run that is stopped so: nothing, unless a read failed, memory ran out or there was too much
-abbrev pub IsLeftBy : Stop → Option (List ℕ) → Type 0
+-- of what the words ask for, and of the input where its bytes are known
+abbrev pub IsFoundBy : List (List ℕ) → Option (List ℕ) → Finding → Type 0
+IsFoundBy words input (Refused refusal) = IsStep words × IfSome input (λ bytes. IsRefused bytes refusal)
+IsFoundBy words input (Exceeded excess) = IsStep words × IfSome input (λ bytes. IsExcess bytes excess)
+IsFoundBy words input (Undecodable fault) = (format : Format) × ((bytes : List ℕ) × HasFault words format bytes fault)
+
+-- ---- what stops a command
+
+-- a run of a script that the source gives
+abbrev pub StopsStep : Option (List ℕ) → ℕ → ℕ → Stop Finding → Type 0
+StopsStep input before after stop = StopsReading finding_line (IsFoundAhead input) before after stop
+
+-- a run of bytes that were read
+abbrev pub StopsRun : List ℕ → Stop Finding → Type 0
+StopsRun bytes stop = StopsBy finding_line (IsFoundIn bytes) stop
+
+-- a run of a script
+abbrev pub StopsScript : Script → Stop Finding → Type 0
+StopsScript script stop = StopsBy finding_line (IsFoundOf script) stop
+
+-- the decoding of bytes
+abbrev pub StopsDecode : Format → List ℕ → Stop Finding → Type 0
+StopsDecode format bytes stop = StopsBy finding_line (IsFoundAs format bytes) stop
+
+-- what the words ask for
+abbrev pub StopsFor : List (List ℕ) → Option (List ℕ) → ℕ → ℕ → Stop Finding → Type 0
+StopsFor words input before after stop = StopsProgram (SpellsNone words) (IsCommand words) (IsStep words) finding_line (IsFoundBy words input) before after stop
+
+-- what is left of the input of a run of which this was found: nothing, unless there was too much of it
+abbrev pub IsLeftAt : Finding → Option (List ℕ) → Type 0
+IsLeftAt (Refused refusal) left = IsAtEnd left
+IsLeftAt (Exceeded excesses.Input) left = Unit {0}
+IsLeftAt (Exceeded (excesses.Script limit)) left = IsAtEnd left
+IsLeftAt (Undecodable fault) left = Unit {0}
+
+-- what is left of it where the run is stopped so; where a read failed or memory ran out, that may be anything
+abbrev pub IsLeftBy : Stop Finding → Option (List ℕ) → Type 0
 IsLeftBy Usage left = Unit {0}
 IsLeftBy ReadFault left = Unit {0}
-IsLeftBy (Refused note) left = IsAtEnd left
-IsLeftBy (Exceeded excesses.Input) left = Unit {0}
-IsLeftBy (Exceeded (excesses.Script limit)) left = IsAtEnd left
+IsLeftBy (Found finding note) left = IsLeftAt finding left
 IsLeftBy Memory left = Unit {0}
 
 -- notes have gained a beginning of the line that goes with what stops a command
 abbrev pub IsNoteCutShort : List (List ℕ) → Option (List ℕ) → ℕ → ℕ → Option (List ℕ) → Option (List ℕ) → Type 0
 IsNoteCutShort words input before after old new =
-    (stop : Stop) × (StopsFor words input before after stop × AppendsPrefix old new (note_of stop))
+    (stop : Stop Finding) × (StopsFor words input before after stop × AppendsPrefix old new (note_of stop))
 
 -- a journal of a run, and its text
 abbrev pub IsMade : Bool → Script → List Entry → List ℕ → Type 0

@@ -1,59 +1,31 @@
 -- Reading words from left to right: what is read from the front, and the words after it.
-use Rattle.std.specs.Prelude.{ℕ, ◌≡◌, ◌%◌, ◌==◌, ◌&&◌, ◌||◌, not, nat_lt, nat_le, Bool, true, false, if◌then◌else◌, List, [], ◌∷◌, length, codes, Option, Some, None}
-use Rattle.std.specs.List.{list_all}
-use Rattle.std.specs.Fmt.{decimal}
-use Rattle.std.specs.Result.{result_ok}
+use Rattle.std.specs.Prelude.{ℕ, Bool, true, false, if◌then◌else◌, List, [], ◌∷◌, codes, Option, Some, None}
 use Rattle.std.specs.Str.{bytes_eq}
-use Rattle.std.specs.Str.Parse.{digits_value}
-use Rattle.hex.specs.Hex.{decode_of}
+pub use Rattle.text_fields.specs.Reading.{◌>>=◌, Reads}
+use Rattle.text_fields.specs.Reading as reading
+use Rattle.text_fields.specs.Reading.{filled_of}
+use Rattle.program_status.specs.Words.{single_of}
 use Rattle.xor_cli.specs.declared.decoding.values.Format.{Format}
 use Rattle.xor_cli.specs.declared.decoding.values.Format.TheVariants as formats
 use Rattle.xor_cli.specs.declared.words.Command.{Command}
 use Rattle.xor_cli.specs.declared.words.Command.TheVariants.{Step, Decode}
-
--- the second step, where the first gave a value
-infixl 10 ◌>>=◌
-abbrev pub ◌>>=◌ : {A B : Type 0} → Option A → (A → Option B) → Option B
-(Some x) >>= f = f x
-None >>= f = None
-
--- what a function returned, seen by view, is what reading gives
-abbrev pub Reads : {X Y : Type 0} → (X → Y) → Option X → Option Y → Type 0
-Reads view (Some x) read = read ≡ Some (view x)
-Reads view None read = read ≡ None
 
 -- the first word, and those after it
 abbrev pub first_of : List (List ℕ) → Option (List ℕ × List (List ℕ))
 first_of [] = None
 first_of (word ∷ words) = Some (word, words)
 
--- the one word
-abbrev pub single_of : List (List ℕ) → Option (List ℕ)
-single_of [] = None
-single_of (word ∷ []) = Some word
-single_of (word ∷ other ∷ words) = None
-
 -- a bit
 abbrev pub flag_of : List ℕ → Option Bool
 flag_of word = if bytes_eq word (codes "0") then Some false else if bytes_eq word (codes "1") then Some true else None
 
 -- the number below 2 ^ 32 whose decimal digits these are
-unfoldable pub number_of : List ℕ → Option ℕ
-number_of word =
-    if nat_lt (digits_value 10 word) 4294967296 && bytes_eq word (decimal (digits_value 10 word)) then Some (digits_value 10 word)
-    else None
+abbrev pub number_of : List ℕ → Option ℕ
+number_of word = reading.number_of 4294967295 word
 
--- a hexadecimal digit in lower case
-abbrev pub is_digit : ℕ → Bool
-is_digit c = (nat_le 48 c && nat_le c 57) || (nat_le 97 c && nat_le c 102)
-
--- at least one byte, each as two digits
-abbrev pub is_hex : List ℕ → Bool
-is_hex word = not (length word == 0) && (length word % 2 == 0) && list_all is_digit word
-
--- the bytes of pairs of digits
-unfoldable pub hex_of : List ℕ → Option (List ℕ)
-hex_of word = if is_hex word then result_ok (decode_of word) else None
+-- the bytes of at least one pair of digits
+abbrev pub hex_of : List ℕ → Option (List ℕ)
+hex_of word = filled_of word
 
 -- what stands behind `params`
 unfoldable pub params_at : List (List ℕ) → Option (Format × List (List ℕ))

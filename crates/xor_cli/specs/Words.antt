@@ -1,17 +1,12 @@
 -- Which words spell a command.
-use Rattle.std.specs.Prelude.{ℕ, ◌≡◌, ◌≢◌, ◌<◌, ◌^◌, Bool, true, false, List, [], ◌∷◌, ◌++◌, map, codes, if◌then◌else◌, String, string_bytes}
+use Rattle.std.specs.Prelude.{ℕ, ◌≡◌, ◌≢◌, ◌<◌, ◌^◌, Bool, true, false, List, [], ◌∷◌, ◌++◌, codes, if◌then◌else◌}
 use Rattle.std.specs.List.{AllByRecursion}
 use Rattle.std.specs.Fmt.{decimal}
-use Rattle.std.specs.declared.alloc.Global.{Global}
-use Rattle.host_scripts.specs.Scripts.{hex}
+use Rattle.text_fields.specs.Spelling.{hex}
 use Rattle.xor_cli.specs.declared.decoding.values.Format.{Format}
 use Rattle.xor_cli.specs.declared.decoding.values.Format.TheVariants as formats
 use Rattle.xor_cli.specs.declared.words.Command.{Command}
 use Rattle.xor_cli.specs.declared.words.Command.TheVariants.{Step, Decode}
-
--- the bytes of each word
-abbrev pub texts : List (String Global) → List (List ℕ)
-texts words = map string_bytes words
 
 -- the words that name a format; a parameter list goes with the INTDATA bit, and with the number of bytes that intermediate
 -- data has

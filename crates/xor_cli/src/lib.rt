@@ -4,13 +4,13 @@
 
 mod array;
 mod decoding;
-mod endings;
-mod later;
+mod execute;
+mod findings;
 mod numerals;
 mod refusals;
 mod text;
 mod top;
+mod unsupported;
 mod words;
-mod working;
 
 pub use top::{Outcome, tool};

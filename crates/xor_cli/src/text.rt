@@ -5,7 +5,7 @@ ghost use Rattle.std.specs.Io.{StartsWith};
 ghost use Rattle.xor_cli.specs.DecodeTexts.{field, flag, optional};
 
 use blocks_core::{Bytes, Memory};
-use stripe_check::push_number;
+use text_fields::push_number;
 
 /// A number in decimal, or a dash for none.
 pub fn push_optional(text: &mut Bytes, number: Option<u64>) -> Result<(), Memory>
@@ -19,7 +19,7 @@ pub fn push_optional(text: &mut Bytes, number: Option<u64>) -> Result<(), Memory
 }
 
 /// A word and a number, behind a space.
-#[tactic(auto, using(stripe_check::proofs::Fronts::fronts), unfolding(crate::specs::DecodeTexts::field))]
+#[tactic(auto, using(text_fields::proofs::Fronts::fronts), unfolding(crate::specs::DecodeTexts::field))]
 pub fn push_field(text: &mut Bytes, word: &[u8], number: u64) -> Result<(), Memory>
     ensures ok { OnOk result (text.new ≡ text.old ++ field word.now number) }
     ensures front { StartsWith text.new text.old }

@@ -5,21 +5,27 @@ ghost use Rattle.xor_cli.specs.declared.decoding.faults.Fault.{Fault};
 ghost use Rattle.xor_cli.specs.declared.decoding.values.Format.{Format};
 ghost use Rattle.xor_cli.specs.declared.decoding.values.Value.{Value};
 ghost use Rattle.xor_cli.specs.declared.refusals.Refusal.{Refusal};
-ghost use Rattle.xor_cli.specs.declared.refusals.Excess.{Excess};
+ghost use Rattle.program_status.specs.declared.notes.Excess.{Excess};
+ghost use Rattle.program_status.specs.Endings.{HasCause, IsHanded, IsNoted};
+ghost use Rattle.program_status.specs.Notes.{excess_line};
+ghost use Rattle.program_status.specs.Statuses.{IsOneOf};
+ghost use Rattle.program_status.specs.Stops.{noted_for};
+ghost use Rattle.program_status.specs.Words.{texts};
 ghost use Rattle.xor_cli.specs.declared.words.Command.TheVariants as commands;
 ghost use Rattle.xor_cli.specs.Decoding.{IsValue, IsFault};
 ghost use Rattle.xor_cli.specs.DecodeTexts.{value_line, fault_line};
-ghost use Rattle.xor_cli.specs.RefusalTexts.{refusal_line, excess_line};
-ghost use Rattle.outer_io.specs.Outside.{HasRisen, AppendsPrefix, input_limit};
-ghost use Rattle.xor_cli.specs.Words.{texts, Spells, SpellsNone, IsStep, IsCommand};
+ghost use Rattle.xor_cli.specs.RefusalTexts.{refusal_line};
+ghost use Rattle.outer_io.specs.Outside.{HasRisen, input_limit};
+ghost use Rattle.xor_cli.specs.Words.{Spells, SpellsNone, IsStep, IsCommand};
 ghost use Rattle.xor_cli.specs.Inputs.{IsAccepted, IsRefused, IsLater, IsExcess};
-ghost use Rattle.xor_cli.specs.Endings.{IsOneOf, IsDone, IsCutShort, IsRefusalNoted, IsExcessNoted};
-ghost use Rattle.xor_cli.specs.Statuses.{status_of, note_of, noted_for, later_refusal, IsNoteCutShort};
+ghost use Rattle.xor_cli.specs.Endings.{IsDone, IsCutShort, IsRefusalNoted, IsExcessNoted};
+ghost use Rattle.xor_cli.specs.Statuses.{verdict_of, later_refusal, IsNoteCutShort};
 
-use crate::endings::{Ending, Stop};
-use crate::working::{Made, work};
+use crate::execute::{Made, work};
+use crate::findings::Finding;
 use array_journal::Journal;
-use outer_io::{Sink, Source, write_all};
+use outer_io::{Sink, Source};
+use program_status::Stop;
 use std::alloc::Global;
 
 /// What a command came to: the status that its process ends with, and the journal of what it ran.
@@ -29,12 +35,14 @@ pub struct Outcome {
     pub journal: Journal,
 }
 
-/// Does what the words ask for, and writes to `out` what came of it, and to `notes` one line where nothing did.
+/// Does what the words ask for, and writes to `out` what came of it, and to `notes` one line where nothing
+/// did.
 ///
-/// `step` runs the script that the source gives and writes its report; with `--trace` the trace of its journal follows.
-/// `decode cdb HEX`, `decode sense HEX`, `decode page HEX` and `decode params I BYTES HEX` say in one line what the bytes are:
-/// a command descriptor block, sense data, the XOR control mode page, or a parameter list of a command whose INTDATA bit is I
-/// and which takes so many bytes of intermediate data where it is one. They read nothing.
+/// `step` runs the script that the source gives and writes its report; with `--trace` the trace of its
+/// journal follows. `decode cdb HEX`, `decode sense HEX`, `decode page HEX` and `decode params I BYTES HEX`
+/// say in one line what the bytes are: a command descriptor block, sense data, the XOR control mode page,
+/// or a parameter list of a command whose INTDATA bit is I and which takes so many bytes of intermediate
+/// data where it is one. They read nothing.
 pub fn tool<S: Source, K: Sink, N: Sink>(
     alloc: Global,
     words: &[String],
@@ -47,8 +55,6 @@ pub fn tool<S: Source, K: Sink, N: Sink>(
         IsDone (texts words.now) (S.left source.old) (K.written out.old) (K.written out.new) result.journal }
     ensures refused { result.status ≡ 2 →
         IsRefusalNoted (texts words.now) (S.left source.old) (N.written notes.old) (N.written notes.new) }
-    ensures read_fault { result.status ≡ 3 →
-        IsStep (texts words.now) × HasRisen (S.faults source.old) (S.faults source.new) }
     ensures write_fault { result.status ≡ 4 →
         (HasRisen (K.faults out.old) (K.faults out.new)
         × IsCutShort (texts words.now) (S.left source.old) (K.written out.old) (K.written out.new) result.journal
@@ -58,10 +64,11 @@ pub fn tool<S: Source, K: Sink, N: Sink>(
         × IsNoteCutShort (texts words.now) (S.left source.old) (S.faults source.old) (S.faults source.new) (N.written notes.old) (N.written notes.new)
         × (K.written out.new ≡ K.written out.old)
         × (result.journal ≡ [])) }
-    ensures no_memory { result.status ≡ 5 → IsCommand (texts words.now) }
     ensures exceeded { result.status ≡ 7 →
         IsExcessNoted (texts words.now) (S.left source.old) (N.written notes.old) (N.written notes.new) }
-    ensures usage { result.status ≡ 64 → SpellsNone (texts words.now) }
+    ensures causes { HasCause (SpellsNone (texts words.now)) (IsCommand (texts words.now)) (IsStep (texts words.now))
+        (record { source = S.faults source.old; out = K.faults out.old; notes = N.faults notes.old })
+        (record { source = S.faults source.new; out = K.faults out.new; notes = N.faults notes.new }) result.status }
     ensures no_other { IsOneOf (0 ∷ 2 ∷ 3 ∷ 4 ∷ 5 ∷ 7 ∷ 64 ∷ []) result.status }
 
     // Where a status comes, unless a read fails (3), a write fails (4) or memory runs out (5).
@@ -91,7 +98,8 @@ pub fn tool<S: Source, K: Sink, N: Sink>(
         ⊎ IsOneOf (4 ∷ 5 ∷ []) result.status }
     ensures answers_usage { SpellsNone (texts words.now) → IsOneOf (64 ∷ 4 ∷ []) result.status }
 
-    // Where no count of faults rises, only want of memory keeps a script from its run, and a value from its line.
+    // Where no count of faults rises, only want of memory keeps a script from its run, and a value from its
+    // line.
     ensures complete { IsStep (texts words.now) →
         IfSome (S.left source.old) (λ input. (script : Script) → IsAccepted input script →
         ¬ HasRisen (S.faults source.old) (S.faults source.new) →
@@ -104,7 +112,8 @@ pub fn tool<S: Source, K: Sink, N: Sink>(
         ¬ HasRisen (N.faults notes.old) (N.faults notes.new) →
         IsOneOf (0 ∷ 5 ∷ []) result.status }
 
-    // What is read: all that there is, where a run is asked for and the input isn't too long; and else nothing.
+    // What is read: all that there is, where a run is asked for and the input isn't too long. How much is
+    // taken of a longer one isn't said here. Where no run is asked for, nothing is read.
     ensures read_whole { IsStep (texts words.now) → IsOneOf (0 ∷ 2 ∷ 7 ∷ []) result.status →
         IfSome (S.left source.old) (λ input. length input ≤ input_limit → IsAtEnd (S.left source.new)) }
     ensures unread { ¬ IsStep (texts words.now) →
@@ -118,49 +127,29 @@ pub fn tool<S: Source, K: Sink, N: Sink>(
 {
     match work(alloc, words, source) {
         Ok(made) => hand_out(out, made),
-        Err(stop) => hand_note(alloc, notes, stop),
+        Err(stop) => hand_note(alloc, notes, &stop),
     }
 }
 
-/// Writes what was made.
+/// Writes what was made. The journal is handed on also where the write fails, since the run is done then.
 fn hand_out<K: Sink>(out: &mut K, made: Made) -> Outcome
-    ensures status { ((result.status ≡ 0) × Appends (K.written out.old) (K.written out.new) made.text)
-        ⊎ ((result.status ≡ 4)
-        × HasRisen (K.faults out.old) (K.faults out.new)
-        × AppendsPrefix (K.written out.old) (K.written out.new) made.text) }
+    ensures status { IsHanded 0 made.text (K.written out.old) (K.written out.new) (K.faults out.old) (K.faults out.new) result.status }
     ensures journal { result.journal ≡ made.journal }
 {
     let Made { journal, text } = made;
-    match write_all(out, text.as_slice()) {
-        Ok(()) => Outcome {
-            status: Ending::Done.status(),
-            journal,
-        },
-        Err(_) => Outcome {
-            status: Ending::WriteFault.status(),
-            journal,
-        },
+    Outcome {
+        status: program_status::hand_out(out, text.as_slice()),
+        journal,
     }
 }
 
 /// Writes why there is nothing to write.
-fn hand_note<N: Sink>(alloc: Global, notes: &mut N, stop: Stop) -> Outcome
-    ensures status { ((result.status ≡ status_of (Ending.Stopped stop))
-        × Appends (N.written notes.old) (N.written notes.new) (note_of stop))
-        ⊎ ((result.status ≡ 4)
-        × HasRisen (N.faults notes.old) (N.faults notes.new)
-        × AppendsPrefix (N.written notes.old) (N.written notes.new) (note_of stop)) }
+fn hand_note<N: Sink>(alloc: Global, notes: &mut N, stop: &Stop<Finding>) -> Outcome
+    ensures status { IsNoted verdict_of stop.now (N.written notes.old) (N.written notes.new) (N.faults notes.old) (N.faults notes.new) result.status }
     ensures journal { result.journal ≡ [] }
 {
-    let journal = Journal::new(alloc);
-    match write_all(notes, stop.note()) {
-        Ok(()) => Outcome {
-            status: Ending::Stopped(stop).status(),
-            journal,
-        },
-        Err(_) => Outcome {
-            status: Ending::WriteFault.status(),
-            journal,
-        },
+    Outcome {
+        status: program_status::hand_note(notes, stop),
+        journal: Journal::new(alloc),
     }
 }

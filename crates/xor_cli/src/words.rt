@@ -1,11 +1,14 @@
 ghost use Rattle.std.specs.Prelude.{◌≡◌, Some, IfOk, OnErr, IsSome, MatchOption};
 ghost use Rattle.xor_cli.specs.declared.words.Command.{Command};
-ghost use Rattle.xor_cli.specs.Words.{texts, Spells, SpellsNone, IsCommand};
-ghost use Rattle.xor_cli.specs.WordReading.{Reads, first_of, single_of, flag_of, params_at, format_at, last_at, decode_at, step_at, command_at};
+ghost use Rattle.program_status.specs.Words.{texts};
+ghost use Rattle.text_fields.specs.Reading.{Reads};
+ghost use Rattle.xor_cli.specs.Words.{Spells, SpellsNone, IsCommand};
+ghost use Rattle.xor_cli.specs.WordReading.{first_of, flag_of, params_at, format_at, last_at, decode_at, step_at, command_at};
 
 use crate::decoding::Format;
 use crate::numerals::{hex_of, number_of};
 use blocks_core::{Bytes, Memory};
+use program_status::single_word;
 use std::alloc::Global;
 
 /// What is to be done.
@@ -28,17 +31,6 @@ fn first(words: &[String]) -> Option<(&str, &[String])>
     }
 }
 
-/// The one word.
-fn single(words: &[String]) -> Option<&str>
-    ensures { Reads (λ x. x.now) result (single_of (texts words.now)) }
-{
-    match words {
-        [word] => Some(word.as_str()),
-        _ => None,
-    }
-}
-
-/// A bit.
 fn flag_of(word: &str) -> Option<bool>
     ensures { result ≡ flag_of word.now }
 {
@@ -88,7 +80,7 @@ fn last(alloc: Global, format: Format, words: &[String]) -> Result<Option<Comman
     ensures found { IfOk result (λ found. found ≡ last_at format (texts words.now)) }
     ensures memory { OnErr result (IsSome (last_at format (texts words.now))) }
 {
-    let Some(text) = single(words) else {
+    let Some(text) = single_word(words) else {
         return Ok(None);
     };
     match hex_of(alloc, text)? {

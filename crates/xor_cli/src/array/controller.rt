@@ -1,5 +1,5 @@
 ghost use Rattle.std.specs.Prelude.{◌≡◌, ◌+◌, ◌*◌, ◌<◌, ◌≤◌, [], ◌∷◌, ◌++◌, length, IfOk, OnOk, None, true, false};
-ghost use Rattle.array_journal.specs.Lists.{slice};
+ghost use Rattle.blocks_core.specs.Lists.{slice};
 ghost use Rattle.xor_cli.specs.Disks.{disk_of, IsOnDisk, with_diff, with_take, with_fold};
 ghost use Rattle.xor_cli.specs.Serving.{next_at, with_next};
 
@@ -41,12 +41,16 @@ impl Controller {
           journal = with_next (array_of self.old).journal 0 event;
         }) }
     {
+        // Past the type's end there is no further stamp. That is want of memory: any other answer would
+        // need a cause that it hasn't.
         let stamp = self.stamp.checked_add(1).ok_or(Memory)?;
         self.book.entries.push(Entry {
             stamp,
             lock: 0,
             event,
         })?;
+        // Only once the entry stands: a stamp that was handed out and not used would leave a gap, and
+        // stamps are to be 1, 2, 3 and so on.
         self.stamp = stamp;
         Ok(At { stamp, lock: 0 })
     }
@@ -65,6 +69,7 @@ impl Controller {
         let stamp = self.stamp.checked_add(1).ok_or(Memory)?;
         let lock = target + 1;
         self.targets[target as usize].keep(Entry { stamp, lock, event })?;
+        // Only once the entry stands, as in the book.
         self.stamp = stamp;
         Ok(At { stamp, lock })
     }
@@ -169,6 +174,9 @@ impl Controller {
           disks = with_diff (array_of self.old).disks target (served.row * self.old.setting.geometry.block) bytes;
         }) }
     {
+        // The medium changes before its entry stands. Where memory for the entry is wanting, the whole run
+        // is given up and its journal is never handed out; a controller that went on after want of memory
+        // would have to append first.
         self.write(alloc, served.row, target, bytes.as_slice())?;
         let event = Event::Diff {
             command: served.command,
@@ -214,6 +222,7 @@ impl Controller {
           disks = with_take (array_of self.old).disks target;
         }) }
     {
+        // The delta is let go before its entry stands, as in `diff`.
         let delta = self.release(alloc, target);
         let event = Event::Take {
             command: served.command,
@@ -259,6 +268,7 @@ impl Controller {
           disks = with_fold (array_of self.old).disks target (served.row * self.old.setting.geometry.block) delta;
         }) }
     {
+        // The medium changes before its entry stands, as in `diff`.
         self.fold_in(served.row, target, delta.as_slice());
         let mut names = Names::new(alloc);
         names.push(taken)?;

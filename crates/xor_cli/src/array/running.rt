@@ -58,11 +58,12 @@ impl Controller {
                 let task = task_at(geometry, number, Kind::Update, *lba, count, bytes);
                 self.update(alloc, task)
             }
+            // `first_later` refused every other action before the run began.
             _ => unreachable!(),
         }
     }
 
-    /// The lists of entries: the book's, and each target's.
+    /// The lists of entries in the order of their locks: the book's, and each target's.
     fn into_lists(self, alloc: Global) -> Result<Vec<Entries>, Memory>
         ensures { IfOk result (λ lists. lists.items ≡ lists_of self) }
     {
@@ -84,7 +85,7 @@ impl Controller {
         Ok(lists)
     }
 
-    /// The journal of all that happened.
+    /// The journal of all that happened: the entries of all locks, in the order of their stamps.
     pub fn into_journal(self, alloc: Global) -> Result<Journal, Memory>
         requires kept { IsKept self }
         ensures { IfOk result (λ journal. journal ≡ (array_of self).journal) }

@@ -1,6 +1,6 @@
 ghost use Rattle.std.specs.Prelude.{◌≡◌, ◌+◌, ◌≤◌, [], ◌∷◌, ◌++◌, length, IfOk, OnOk};
 ghost use Rattle.blocks_core.specs.Xor.{xor, zeros};
-ghost use Rattle.array_journal.specs.Lists.{slice, put};
+ghost use Rattle.blocks_core.specs.Lists.{slice, put};
 
 use array_journal::{Entries, Entry};
 use blocks_core::{Bytes, Memory, xor_into};

@@ -8,8 +8,8 @@ use crate::text::{push_field, push_flag};
 use blocks_core::{Bytes, Memory};
 use sbc_cdbs::Command;
 
-/// The flags of caches.
-#[tactic(auto, using(stripe_check::proofs::Fronts::fronts), unfolding(crate::specs::DecodeTexts::caching))]
+/// DPO and FUA, what a command asks of caches.
+#[tactic(auto, using(text_fields::proofs::Fronts::fronts), unfolding(crate::specs::DecodeTexts::caching))]
 fn push_caching(text: &mut Bytes, dpo: bool, fua: bool) -> Result<(), Memory>
     ensures ok { OnOk result (text.new ≡ text.old ++ caching dpo fua) }
     ensures front { StartsWith text.new text.old }
@@ -19,7 +19,7 @@ fn push_caching(text: &mut Bytes, dpo: bool, fua: bool) -> Result<(), Memory>
 }
 
 /// The blocks that a command is about.
-#[tactic(auto, using(stripe_check::proofs::Fronts::fronts), unfolding(crate::specs::DecodeTexts::extent))]
+#[tactic(auto, using(text_fields::proofs::Fronts::fronts), unfolding(crate::specs::DecodeTexts::extent))]
 fn push_extent(text: &mut Bytes, lba: u32, length: u32) -> Result<(), Memory>
     ensures ok { OnOk result (text.new ≡ text.old ++ extent lba length) }
     ensures front { StartsWith text.new text.old }
@@ -28,7 +28,7 @@ fn push_extent(text: &mut Bytes, lba: u32, length: u32) -> Result<(), Memory>
     push_field(text, b"length", u64::from(length))
 }
 
-#[tactic(auto, using(stripe_check::proofs::Fronts::fronts))]
+#[tactic(auto, using(text_fields::proofs::Fronts::fronts))]
 fn push_transfer(
     text: &mut Bytes,
     name: &[u8],
@@ -46,7 +46,7 @@ fn push_transfer(
 }
 
 /// A name with the flags of caches and one more flag.
-#[tactic(auto, using(stripe_check::proofs::Fronts::fronts), unfolding(crate::specs::DecodeTexts::flagged))]
+#[tactic(auto, using(text_fields::proofs::Fronts::fronts), unfolding(crate::specs::DecodeTexts::flagged))]
 fn push_flagged(
     text: &mut Bytes,
     name: &[u8],
@@ -63,7 +63,7 @@ fn push_flagged(
     push_flag(text, word, one)
 }
 
-#[tactic(auto, using(stripe_check::proofs::Fronts::fronts))]
+#[tactic(auto, using(text_fields::proofs::Fronts::fronts))]
 fn push_xdread(text: &mut Bytes, lba: u32, length: u16) -> Result<(), Memory>
     ensures ok { OnOk result (text.new ≡ text.old ++ (codes "XDREAD" ++ extent lba length)) }
     ensures front { StartsWith text.new text.old }
@@ -73,7 +73,7 @@ fn push_xdread(text: &mut Bytes, lba: u32, length: u16) -> Result<(), Memory>
 }
 
 /// Where an XDWRITE EXTENDED sends what it makes.
-#[tactic(auto, using(stripe_check::proofs::Fronts::fronts), unfolding(crate::specs::DecodeTexts::sending))]
+#[tactic(auto, using(text_fields::proofs::Fronts::fronts), unfolding(crate::specs::DecodeTexts::sending))]
 fn push_sending(
     text: &mut Bytes,
     lba: u32,
@@ -91,7 +91,7 @@ fn push_sending(
 }
 
 /// What a REBUILD or a REGENERATE makes, and how long its parameter list is.
-#[tactic(auto, using(stripe_check::proofs::Fronts::fronts), unfolding(crate::specs::DecodeTexts::gathering))]
+#[tactic(auto, using(text_fields::proofs::Fronts::fronts), unfolding(crate::specs::DecodeTexts::gathering))]
 fn push_gathering(text: &mut Bytes, lba: u32, length: u32, list: u32) -> Result<(), Memory>
     ensures ok { OnOk result (text.new ≡ text.old ++ gathering lba length list) }
     ensures front { StartsWith text.new text.old }
@@ -101,7 +101,7 @@ fn push_gathering(text: &mut Bytes, lba: u32, length: u32, list: u32) -> Result<
 }
 
 /// MODE SELECT with its flags.
-#[tactic(auto, using(stripe_check::proofs::Fronts::fronts), unfolding(crate::specs::DecodeTexts::selecting))]
+#[tactic(auto, using(text_fields::proofs::Fronts::fronts), unfolding(crate::specs::DecodeTexts::selecting))]
 fn push_selecting(text: &mut Bytes, pf: bool, sp: bool) -> Result<(), Memory>
     ensures ok { OnOk result (text.new ≡ text.old ++ selecting pf sp) }
     ensures front { StartsWith text.new text.old }
@@ -111,7 +111,7 @@ fn push_selecting(text: &mut Bytes, pf: bool, sp: bool) -> Result<(), Memory>
     push_flag(text, b"sp", sp)
 }
 
-#[tactic(auto, using(stripe_check::proofs::Fronts::fronts))]
+#[tactic(auto, using(text_fields::proofs::Fronts::fronts))]
 fn push_mode_select(text: &mut Bytes, pf: bool, sp: bool, list: u16) -> Result<(), Memory>
     ensures ok { OnOk result (text.new ≡ text.old ++ select_text pf sp list) }
     ensures front { StartsWith text.new text.old }
@@ -120,7 +120,7 @@ fn push_mode_select(text: &mut Bytes, pf: bool, sp: bool, list: u16) -> Result<(
     push_field(text, b"list", u64::from(list))
 }
 
-#[tactic(auto, using(stripe_check::proofs::Fronts::fronts))]
+#[tactic(auto, using(text_fields::proofs::Fronts::fronts))]
 fn push_mode_sense(
     text: &mut Bytes,
     dbd: bool,
@@ -139,7 +139,7 @@ fn push_mode_sense(
 }
 
 /// The name of a command, and its fields.
-#[tactic(auto, using(stripe_check::proofs::Fronts::fronts))]
+#[tactic(auto, using(text_fields::proofs::Fronts::fronts))]
 pub fn push_cdb(text: &mut Bytes, command: &Command) -> Result<(), Memory>
     ensures ok { OnOk result (text.new ≡ text.old ++ cdb_text command.now) }
     ensures front { StartsWith text.new text.old }

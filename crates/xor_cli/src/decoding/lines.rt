@@ -2,7 +2,7 @@
 
 ghost use Rattle.std.specs.Prelude.{◌≡◌, ◌++◌, ◌∷◌, [], IfOk, OnOk, codes};
 ghost use Rattle.std.specs.Io.{StartsWith};
-ghost use Rattle.host_scripts.specs.Scripts.{hex};
+ghost use Rattle.text_fields.specs.Spelling.{hex};
 ghost use Rattle.xor_cli.specs.DecodeTexts.{field, value_text, fault_text, value_line, fault_line};
 
 use crate::decoding::cdbs::push_cdb;
@@ -13,7 +13,7 @@ use crate::decoding::{Fault, Value};
 use crate::text::push_field;
 use blocks_core::{Bytes, Memory};
 use std::alloc::Global;
-use stripe_check::push_hex;
+use text_fields::push_hex;
 
 fn push_value(text: &mut Bytes, value: &Value) -> Result<(), Memory>
     ensures ok { OnOk result (text.new ≡ text.old ++ value_text value.now) }
@@ -37,7 +37,7 @@ pub fn value_line(alloc: Global, value: &Value) -> Result<Bytes, Memory>
     Ok(text)
 }
 
-#[tactic(auto, using(stripe_check::proofs::Fronts::fronts))]
+#[tactic(auto, using(text_fields::proofs::Fronts::fronts))]
 fn push_coded(text: &mut Bytes, name: &[u8], code: u8) -> Result<(), Memory>
     ensures ok { OnOk result (text.new ≡ text.old ++ (name.now ++ hex (code ∷ []))) }
     ensures front { StartsWith text.new text.old }
@@ -46,7 +46,7 @@ fn push_coded(text: &mut Bytes, name: &[u8], code: u8) -> Result<(), Memory>
     push_hex(text, &[code])
 }
 
-#[tactic(auto, using(stripe_check::proofs::Fronts::fronts))]
+#[tactic(auto, using(text_fields::proofs::Fronts::fronts))]
 fn push_placed(text: &mut Bytes, name: &[u8], byte: u32) -> Result<(), Memory>
     ensures ok { OnOk result (text.new ≡ text.old ++ (name.now ++ field (codes "byte") byte)) }
     ensures front { StartsWith text.new text.old }
@@ -55,7 +55,7 @@ fn push_placed(text: &mut Bytes, name: &[u8], byte: u32) -> Result<(), Memory>
     push_field(text, b"byte", u64::from(byte))
 }
 
-#[tactic(auto, using(stripe_check::proofs::Fronts::fronts))]
+#[tactic(auto, using(text_fields::proofs::Fronts::fronts))]
 fn push_length(text: &mut Bytes, want: u64, got: u64) -> Result<(), Memory>
     ensures ok { OnOk result (text.new ≡ text.old ++ (codes "fault length" ++ (field (codes "want") want ++ field (codes "got") got))) }
     ensures front { StartsWith text.new text.old }

@@ -9,7 +9,7 @@ use blocks_core::{Bytes, Memory};
 use xor_mode_page::XorPage;
 
 /// The most blocks of each XOR command.
-#[tactic(auto, using(stripe_check::proofs::Fronts::fronts))]
+#[tactic(auto, using(text_fields::proofs::Fronts::fronts))]
 fn push_maxima(text: &mut Bytes, page: &XorPage) -> Result<(), Memory>
     ensures ok { OnOk result (text.new ≡ text.old
         ++ (field (codes "write") page.now.max_write ++ (field (codes "regenerate") page.now.max_regenerate ++ field (codes "rebuild") page.now.max_rebuild))) }
@@ -20,7 +20,7 @@ fn push_maxima(text: &mut Bytes, page: &XorPage) -> Result<(), Memory>
     push_field(text, b"rebuild", u64::from(page.max_rebuild))
 }
 
-#[tactic(auto, using(stripe_check::proofs::Fronts::fronts))]
+#[tactic(auto, using(text_fields::proofs::Fronts::fronts))]
 pub fn push_page(text: &mut Bytes, page: &XorPage) -> Result<(), Memory>
     ensures ok { OnOk result (text.new ≡ text.old ++ page_text page.now) }
     ensures front { StartsWith text.new text.old }

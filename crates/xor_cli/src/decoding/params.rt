@@ -10,7 +10,7 @@ use blocks_core::{Bytes, Memory};
 use xor_params::{Descriptor, Params};
 
 /// A source: its target, and the block that it begins at.
-#[tactic(auto, using(stripe_check::proofs::Fronts::fronts), unfolding(crate::specs::DecodeTexts::source_text))]
+#[tactic(auto, using(text_fields::proofs::Fronts::fronts), unfolding(crate::specs::DecodeTexts::source_text))]
 fn push_source(text: &mut Bytes, source: &Descriptor) -> Result<(), Memory>
     ensures ok { OnOk result (text.new ≡ text.old ++ source_text source.now) }
     ensures front { StartsWith text.new text.old }
@@ -19,7 +19,7 @@ fn push_source(text: &mut Bytes, source: &Descriptor) -> Result<(), Memory>
     push_field(text, b"lba", u64::from(source.lba))
 }
 
-#[tactic(auto, using(stripe_check::proofs::Fronts::fronts))]
+#[tactic(auto, using(text_fields::proofs::Fronts::fronts))]
 fn push_sources(text: &mut Bytes, sources: &[Descriptor]) -> Result<(), Memory>
     ensures ok { OnOk result (text.new ≡ text.old ++ flat_map source_text sources.now) }
     ensures front { StartsWith text.new text.old }
@@ -31,7 +31,7 @@ fn push_sources(text: &mut Bytes, sources: &[Descriptor]) -> Result<(), Memory>
 }
 
 /// The number of sources, and how many bytes the pad and the intermediate data have.
-#[tactic(auto, using(stripe_check::proofs::Fronts::fronts), unfolding(crate::specs::DecodeTexts::lengths_text))]
+#[tactic(auto, using(text_fields::proofs::Fronts::fronts), unfolding(crate::specs::DecodeTexts::lengths_text))]
 fn push_lengths(text: &mut Bytes, params: &Params) -> Result<(), Memory>
     ensures ok { OnOk result (text.new ≡ text.old ++ lengths_text params.now) }
     ensures front { StartsWith text.new text.old }
@@ -41,7 +41,7 @@ fn push_lengths(text: &mut Bytes, params: &Params) -> Result<(), Memory>
     push_field(text, b"intermediate", params.intermediate.len() as u64)
 }
 
-#[tactic(auto, using(stripe_check::proofs::Fronts::fronts))]
+#[tactic(auto, using(text_fields::proofs::Fronts::fronts))]
 pub fn push_params(text: &mut Bytes, params: &Params) -> Result<(), Memory>
     ensures ok { OnOk result (text.new ≡ text.old ++ params_text params.now) }
     ensures front { StartsWith text.new text.old }

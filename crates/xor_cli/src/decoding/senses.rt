@@ -7,7 +7,7 @@ ghost use Rattle.xor_cli.specs.DecodeTexts.{block_name, pointer_text, codes_text
 use crate::text::{push_field, push_optional};
 use blocks_core::{Bytes, Memory};
 use sense_data::{Pointer, Sense};
-use stripe_check::{push_upper_byte, upper_nibble};
+use text_fields::{push_upper_byte, upper_nibble};
 
 /// What a pointer points into.
 fn block_name(command: bool) -> &'static [u8]
@@ -16,7 +16,7 @@ fn block_name(command: bool) -> &'static [u8]
     if command { b"cdb" } else { b"list" }
 }
 
-#[tactic(auto, using(stripe_check::proofs::Fronts::fronts), unfolding(crate::specs::DecodeTexts::pointer_text))]
+#[tactic(auto, using(text_fields::proofs::Fronts::fronts), unfolding(crate::specs::DecodeTexts::pointer_text))]
 fn push_pointer(text: &mut Bytes, pointer: Option<Pointer>) -> Result<(), Memory>
     ensures ok { OnOk result (text.new ≡ text.old ++ pointer_text pointer) }
     ensures front { StartsWith text.new text.old }
@@ -33,7 +33,7 @@ fn push_pointer(text: &mut Bytes, pointer: Option<Pointer>) -> Result<(), Memory
 }
 
 /// The additional sense code and its qualifier.
-#[tactic(auto, using(stripe_check::proofs::Fronts::fronts), unfolding(crate::specs::DecodeTexts::codes_text))]
+#[tactic(auto, using(text_fields::proofs::Fronts::fronts), unfolding(crate::specs::DecodeTexts::codes_text))]
 fn push_codes(text: &mut Bytes, asc: u8, ascq: u8) -> Result<(), Memory>
     ensures ok { OnOk result (text.new ≡ text.old ++ codes_text asc ascq) }
     ensures front { StartsWith text.new text.old }
@@ -45,7 +45,7 @@ fn push_codes(text: &mut Bytes, asc: u8, ascq: u8) -> Result<(), Memory>
 }
 
 /// The numbers that go with a sense.
-#[tactic(auto, using(stripe_check::proofs::Fronts::fronts), unfolding(crate::specs::DecodeTexts::details_text))]
+#[tactic(auto, using(text_fields::proofs::Fronts::fronts), unfolding(crate::specs::DecodeTexts::details_text))]
 fn push_details(
     text: &mut Bytes,
     information: Option<u32>,
@@ -61,7 +61,7 @@ fn push_details(
     push_field(text, b"fru", u64::from(fru))
 }
 
-#[tactic(auto, using(stripe_check::proofs::Fronts::fronts), unfolding(crate::specs::DecodeTexts::key_text))]
+#[tactic(auto, using(text_fields::proofs::Fronts::fronts), unfolding(crate::specs::DecodeTexts::key_text))]
 fn push_key(text: &mut Bytes, key: u8) -> Result<(), Memory>
     requires { key < 16 }
     ensures ok { OnOk result (text.new ≡ text.old ++ key_text key) }
@@ -71,7 +71,7 @@ fn push_key(text: &mut Bytes, key: u8) -> Result<(), Memory>
     text.push(upper_nibble(key))
 }
 
-#[tactic(auto, using(stripe_check::proofs::Fronts::fronts), unfolding(crate::specs::DecodeTexts::place_text))]
+#[tactic(auto, using(text_fields::proofs::Fronts::fronts), unfolding(crate::specs::DecodeTexts::place_text))]
 fn push_place(text: &mut Bytes, pointer: Option<Pointer>) -> Result<(), Memory>
     ensures ok { OnOk result (text.new ≡ text.old ++ place_text pointer) }
     ensures front { StartsWith text.new text.old }
@@ -80,7 +80,7 @@ fn push_place(text: &mut Bytes, pointer: Option<Pointer>) -> Result<(), Memory>
     push_pointer(text, pointer)
 }
 
-#[tactic(auto, using(stripe_check::proofs::Fronts::fronts))]
+#[tactic(auto, using(text_fields::proofs::Fronts::fronts))]
 pub fn push_sense(text: &mut Bytes, sense: &Sense) -> Result<(), Memory>
     ensures ok { OnOk result (text.new ≡ text.old ++ sense_text sense.now) }
     ensures front { StartsWith text.new text.old }

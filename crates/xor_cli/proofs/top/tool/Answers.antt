@@ -1,5 +1,6 @@
 use Rattle.std.proofs.Common.{inl, inr, refl}
-use Rattle.xor_cli.proofs.Ends.{noted-done, made-done, made-cut_short, made-runs, made-complete, made-command, made-refuses, later-refuses, made-limits, made-decodes, stop-refused, stop-exceeded, stop-read_fault, stop-no_memory, stop-usage, stop-no_other, stop-runs, stop-refuses, stop-limits, stop-decodes, stop-faults, stop-answers_usage, stop-complete, stop-decodes_complete, stop-noted, in-limit, stop-read_whole, stop-cut_short}
+use Rattle.program_status.proofs.Endings.{handed-causes, noted-causes}
+use Rattle.xor_cli.proofs.Ends.{noted-done, made-done, made-cut_short, made-runs, made-complete, made-command, made-refuses, later-refuses, made-limits, made-decodes, stop-refused, stop-exceeded, stop-no_other, stop-runs, stop-refuses, stop-limits, stop-decodes, stop-faults, stop-answers_usage, stop-complete, stop-decodes_complete, stop-noted, in-limit, stop-read_whole, stop-cut_short}
 use Rattle.xor_cli.proofs.top.tool.Goals as goal
 
 -- ---- what was made is handed out
@@ -29,7 +30,7 @@ returns-in-Ok-clause-limits g c = λ step. made-limits _ _ _ _ _ _ _ c.in-Ok.ens
 
 pub returns-in-Ok-clause-decodes : goal.returns-in-Ok-clause-decodes
 returns-in-Ok-clause-decodes g c = λ format bytes value spelt is.
-    made-decodes value _ _ _ _ _ (c.in-Ok.ensures.decodes format bytes value spelt is) (elim c.hand_out.ensures.status [ inl p ↦ inl p | inr p ↦ inr p.0 ])
+    made-decodes value _ _ _ _ _ _ _ (c.in-Ok.ensures.decodes format bytes value spelt is) c.hand_out.ensures.status
 
 pub returns-in-Ok-clause-faults : goal.returns-in-Ok-clause-faults
 returns-in-Ok-clause-faults g c = λ format bytes fault spelt is. absurd (c.in-Ok.ensures.faults format bytes fault spelt is)
@@ -43,30 +44,24 @@ returns-in-Ok-clause-noted g c = λ two seven not. elim c.hand_out.ensures.statu
   | inr p ↦ absurd (not p.0)
 ]
 
+pub returns-in-Ok-clause-causes : goal.returns-in-Ok-clause-causes
+returns-in-Ok-clause-causes g c = handed-causes _ _ _ _ _ _ _ _ _ c.hand_out.ensures.status
+
 -- ---- what stopped it is noted
+
+pub returns-in-Err-clause-causes : goal.returns-in-Err-clause-causes
+returns-in-Err-clause-causes g c = noted-causes _ _ _ _ _ _ _ _ _ _ _ _ c.in-Err.ensures.stop c.hand_note.ensures.status
 
 pub returns-in-Err-clause-refused : goal.returns-in-Err-clause-refused
 returns-in-Err-clause-refused g c =
-    stop-refused _ _ _ _ _ _ _ _ c.in-Err.ensures.stop (elim c.hand_note.ensures.status [ inl p ↦ inl p | inr p ↦ inr p.0 ])
-
-pub returns-in-Err-clause-read_fault : goal.returns-in-Err-clause-read_fault
-returns-in-Err-clause-read_fault g c =
-    stop-read_fault _ _ _ _ _ _ _ _ c.in-Err.ensures.stop (elim c.hand_note.ensures.status [ inl p ↦ inl p | inr p ↦ inr p.0 ])
-
-pub returns-in-Err-clause-no_memory : goal.returns-in-Err-clause-no_memory
-returns-in-Err-clause-no_memory g c =
-    stop-no_memory _ _ _ _ _ _ _ _ c.in-Err.ensures.stop (elim c.hand_note.ensures.status [ inl p ↦ inl p | inr p ↦ inr p.0 ])
-
-pub returns-in-Err-clause-usage : goal.returns-in-Err-clause-usage
-returns-in-Err-clause-usage g c =
-    stop-usage _ _ _ _ _ _ _ _ c.in-Err.ensures.stop (elim c.hand_note.ensures.status [ inl p ↦ inl p | inr p ↦ inr p.0 ])
+    stop-refused _ _ _ _ _ _ _ _ _ _ c.in-Err.ensures.stop c.hand_note.ensures.status
 
 pub returns-in-Err-clause-no_other : goal.returns-in-Err-clause-no_other
-returns-in-Err-clause-no_other g c = stop-no_other _ _ _ _ (elim c.hand_note.ensures.status [ inl p ↦ inl p | inr p ↦ inr p.0 ])
+returns-in-Err-clause-no_other g c = stop-no_other _ _ _ _ _ _ c.hand_note.ensures.status
 
 pub returns-in-Err-clause-runs : goal.returns-in-Err-clause-runs
 returns-in-Err-clause-runs g c =
-    stop-runs _ _ _ _ _ _ _ _ c.in-Err.ensures.stop (elim c.hand_note.ensures.status [ inl p ↦ inl p | inr p ↦ inr p.0 ])
+    stop-runs _ _ _ _ _ _ _ _ _ _ c.in-Err.ensures.stop c.hand_note.ensures.status
 
 pub returns-in-Err-clause-write_fault : goal.returns-in-Err-clause-write_fault
 returns-in-Err-clause-write_fault g c = λ four.
@@ -75,41 +70,41 @@ returns-in-Err-clause-write_fault g c = λ four.
 
 pub returns-in-Err-clause-exceeded : goal.returns-in-Err-clause-exceeded
 returns-in-Err-clause-exceeded g c =
-    stop-exceeded _ _ _ _ _ _ _ _ c.in-Err.ensures.stop (elim c.hand_note.ensures.status [ inl p ↦ inl p | inr p ↦ inr p.0 ])
+    stop-exceeded _ _ _ _ _ _ _ _ _ _ c.in-Err.ensures.stop c.hand_note.ensures.status
 
 pub returns-in-Err-clause-refuses : goal.returns-in-Err-clause-refuses
 returns-in-Err-clause-refuses g c =
-    stop-refuses _ _ _ _ _ _ _ _ c.in-Err.ensures.stop (elim c.hand_note.ensures.status [ inl p ↦ inl p | inr p ↦ inr p.0 ])
+    stop-refuses _ _ _ _ _ _ _ _ _ _ c.in-Err.ensures.stop c.hand_note.ensures.status
 
 pub returns-in-Err-clause-later : goal.returns-in-Err-clause-later
 returns-in-Err-clause-later g c = λ step.
-    later-refuses _ _ _ _ (stop-refuses _ _ _ _ _ _ _ _ c.in-Err.ensures.stop (elim c.hand_note.ensures.status [ inl p ↦ inl p | inr p ↦ inr p.0 ]) step)
+    later-refuses _ _ _ _ (stop-refuses _ _ _ _ _ _ _ _ _ _ c.in-Err.ensures.stop c.hand_note.ensures.status step)
 
 pub returns-in-Err-clause-limits : goal.returns-in-Err-clause-limits
 returns-in-Err-clause-limits g c =
-    stop-limits _ _ _ _ _ _ _ _ c.in-Err.ensures.stop (elim c.hand_note.ensures.status [ inl p ↦ inl p | inr p ↦ inr p.0 ])
+    stop-limits _ _ _ _ _ _ _ _ _ _ c.in-Err.ensures.stop c.hand_note.ensures.status
 
 pub returns-in-Err-clause-decodes : goal.returns-in-Err-clause-decodes
 returns-in-Err-clause-decodes g c = λ format bytes value spelt is.
-    stop-decodes value _ _ _ _ _ _ (c.in-Err.ensures.decodes format bytes value spelt is) (elim c.hand_note.ensures.status [ inl p ↦ inl p | inr p ↦ inr p.0 ])
+    stop-decodes value _ _ _ _ _ _ _ _ (c.in-Err.ensures.decodes format bytes value spelt is) c.hand_note.ensures.status
 
 pub returns-in-Err-clause-faults : goal.returns-in-Err-clause-faults
 returns-in-Err-clause-faults g c = λ format bytes fault spelt is.
-    stop-faults fault _ _ _ _ (c.in-Err.ensures.faults format bytes fault spelt is) (elim c.hand_note.ensures.status [ inl p ↦ inl p | inr p ↦ inr p.0 ])
+    stop-faults fault _ _ _ _ _ _ (c.in-Err.ensures.faults format bytes fault spelt is) c.hand_note.ensures.status
 
 pub returns-in-Err-clause-answers_usage : goal.returns-in-Err-clause-answers_usage
 returns-in-Err-clause-answers_usage g c =
-    stop-answers_usage _ _ _ _ _ _ _ _ c.in-Err.ensures.stop (elim c.hand_note.ensures.status [ inl p ↦ inl p | inr p ↦ inr p.0 ])
+    stop-answers_usage _ _ _ _ _ _ _ _ _ _ c.in-Err.ensures.stop c.hand_note.ensures.status
 
 pub returns-in-Err-clause-complete : goal.returns-in-Err-clause-complete
-returns-in-Err-clause-complete g c = stop-complete _ _ _ _ _ _ _ _ _ _ _ c.in-Err.ensures.stop (elim c.hand_note.ensures.status [ inl p ↦ inl p | inr p ↦ inr (p.0, p.1) ])
+returns-in-Err-clause-complete g c = stop-complete _ _ _ _ _ _ _ _ _ _ _ c.in-Err.ensures.stop c.hand_note.ensures.status
 
 pub returns-in-Err-clause-decodes_complete : goal.returns-in-Err-clause-decodes_complete
 returns-in-Err-clause-decodes_complete g c = λ format bytes value spelt is written note.
-    stop-decodes_complete _ _ _ _ _ _ (c.in-Err.ensures.decodes format bytes value spelt is) (elim c.hand_note.ensures.status [ inl p ↦ inl p | inr p ↦ inr (p.0, p.1) ]) note
+    stop-decodes_complete _ _ _ _ _ _ (c.in-Err.ensures.decodes format bytes value spelt is) c.hand_note.ensures.status note
 
 pub returns-in-Err-clause-noted : goal.returns-in-Err-clause-noted
-returns-in-Err-clause-noted g c = stop-noted _ _ _ _ (elim c.hand_note.ensures.status [ inl p ↦ inl p | inr p ↦ inr p.0 ])
+returns-in-Err-clause-noted g c = stop-noted _ _ _ _ _ _ c.hand_note.ensures.status
 
 -- ---- what is read
 
@@ -121,7 +116,7 @@ returns-in-Ok-clause-read_whole g c = λ step one. in-limit _ _ (c.in-Ok.ensures
 
 pub returns-in-Err-clause-read_whole : goal.returns-in-Err-clause-read_whole
 returns-in-Err-clause-read_whole g c = λ step one.
-    stop-read_whole _ _ _ _ _ _ _ _ _ c.in-Err.ensures.stop (c.in-Err.ensures.whole step) (elim c.hand_note.ensures.status [ inl p ↦ inl p | inr p ↦ inr p.0 ]) one
+    stop-read_whole _ _ _ _ _ _ _ _ _ _ _ step c.in-Err.ensures.stop (c.in-Err.ensures.whole step) c.hand_note.ensures.status one
 
 pub returns-in-Err-clause-unread : goal.returns-in-Err-clause-unread
 returns-in-Err-clause-unread g c = c.work.ensures.unread

@@ -2,7 +2,7 @@ use Rattle.std.proofs.Common.{ℕ, List, ◌∷◌, length, ap, sym, subst, ◌�
 use Rattle.std.proofs.lemmas.List.{length-map}
 use Rattle.blocks_core.specs.Xor.{xor}
 use Rattle.array_journal.specs.declared.entry.Entry.{Entry}
-use Rattle.array_journal.specs.Lists.{slice, put}
+use Rattle.blocks_core.specs.Lists.{slice, put}
 use Rattle.xor_cli.specs.Arrays.{array_of}
 use Rattle.xor_cli.specs.Disks.{Disk, with_diff}
 use Rattle.xor_cli.specs.OneJournal.{journal_of, AreKept}

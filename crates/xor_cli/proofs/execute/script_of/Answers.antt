@@ -1,7 +1,7 @@
 use Rattle.std.proofs.Common.{subst}
 use Rattle.host_scripts.specs.Refusals.{Refuses}
 use Rattle.xor_cli.proofs.Work.{stop-unspelt}
-use Rattle.xor_cli.proofs.working.script_of.Goals as goal
+use Rattle.xor_cli.proofs.execute.script_of.Goals as goal
 
 pub returns-in-Err-Refused-clause-stop : goal.returns-in-Err-Refused-clause-stop
 returns-in-Err-Refused-clause-stop c =

@@ -3,30 +3,32 @@ ghost use Rattle.std.specs.Io.KnownBytes.{IsAtEnd};
 ghost use Rattle.host_scripts.specs.declared.script.Script.{Script};
 ghost use Rattle.host_scripts.specs.Scripts.{IsScript, Spells as spells_script};
 ghost use Rattle.host_scripts.specs.Limits.{limit_of};
+ghost use Rattle.program_status.specs.declared.stops.Stop.TheVariants as stops;
 ghost use Rattle.xor_cli.specs.declared.decoding.faults.Fault.{Fault};
 ghost use Rattle.xor_cli.specs.declared.decoding.values.Format.{Format};
 ghost use Rattle.xor_cli.specs.declared.decoding.values.Value.{Value};
 ghost use Rattle.xor_cli.specs.declared.words.Command.TheVariants as commands;
 ghost use Rattle.xor_cli.specs.Decoding.{IsValue, IsFault};
-ghost use Rattle.xor_cli.specs.DecodeTexts.{fault_line};
-ghost use Rattle.xor_cli.specs.RefusalTexts.{refusal_line};
-ghost use Rattle.xor_cli.specs.Words.{texts, Spells, IsStep};
-ghost use Rattle.xor_cli.specs.Later.{first_later};
+ghost use Rattle.program_status.specs.Words.{texts};
+ghost use Rattle.xor_cli.specs.declared.findings.Finding.TheVariants as findings;
+ghost use Rattle.xor_cli.specs.Words.{Spells, IsStep};
+ghost use Rattle.xor_cli.specs.Unsupported.{first_later};
 ghost use Rattle.outer_io.specs.Outside.{input_limit};
 ghost use Rattle.xor_cli.specs.Inputs.{IsRunnable, IsAccepted};
 ghost use Rattle.xor_cli.specs.Endings.{IsOutput, step_text};
-ghost use Rattle.xor_cli.specs.Statuses.{StopsFor, StopsStep, StopsRun, StopsScript, StopsDecode, IsStopWith, IsLeftBy, IsMade, IsMadeOf};
+ghost use Rattle.xor_cli.specs.Statuses.{StopsFor, StopsStep, StopsRun, StopsScript, StopsDecode, IsStopOf, IsLeftBy, IsMade, IsMadeOf};
 
 use crate::array::run;
-use crate::decoding::{Fault, Format, Undecoded, Value, fault_line, value_line, value_of};
-use crate::endings::Stop;
-use crate::later::first_later;
-use crate::refusals::{Excess, Reason, Refusal, reason_of, refusal_line};
+use crate::decoding::{Format, Undecoded, Value, value_line, value_of};
+use crate::findings::Finding;
+use crate::refusals::{Reason, Refusal, reason_of};
+use crate::unsupported::first_later;
 use crate::words::{Command, command_of};
 use array_journal::Journal;
 use blocks_core::{Bytes, Memory};
 use host_scripts::{Script, ScriptFault, over, parse};
 use outer_io::{READ_LIMIT, Source, read_input};
+use program_status::{Excess, Stop, found};
 use std::alloc::Global;
 use stripe_check::{report, trace};
 
@@ -38,15 +40,20 @@ pub struct Made {
 }
 
 /// Does what the words ask for, up to the text that is to be written.
-pub fn work<S: Source>(alloc: Global, words: &[String], source: &mut S) -> Result<Made, Stop>
+pub fn work<S: Source>(
+    alloc: Global,
+    words: &[String],
+    source: &mut S,
+) -> Result<Made, Stop<Finding>>
     ensures made { IfOk result (λ made. IsOutput (texts words.now) (S.left source.old) made.journal made.text) }
     ensures stop { IfErr result (λ stop. StopsFor (texts words.now) (S.left source.old) (S.faults source.old) (S.faults source.new) stop) }
     // What becomes of each value, and of each fault.
     ensures decodes { (format : Format) (bytes : List ℕ) (value : Value) → Spells (texts words.now) (commands.Decode format bytes) →
-        IsValue format bytes value → MatchResult result (λ made. IsMadeOf value made.journal made.text) (λ stop. stop ≡ Stop.Memory) }
+        IsValue format bytes value → MatchResult result (λ made. IsMadeOf value made.journal made.text) (λ stop. stop ≡ stops.Memory) }
     ensures faults { (format : Format) (bytes : List ℕ) (fault : Fault) → Spells (texts words.now) (commands.Decode format bytes) →
-        IsFault format bytes fault → MatchResult result (λ _. ⊥) (λ stop. IsStopWith (fault_line fault) stop) }
-    // The source is read to its end for a run, and else not at all.
+        IsFault format bytes fault → MatchResult result (λ _. ⊥) (λ stop. IsStopOf (findings.Undecodable fault) stop) }
+    // For a run the source is read to its end, unless it is too long, a read fails or memory runs out; else
+    // it isn't read at all.
     ensures whole { IsStep (texts words.now) → MatchResult result (λ _. IsAtEnd (S.left source.new)) (λ stop. IsLeftBy stop (S.left source.new)) }
     ensures unread { ¬ IsStep (texts words.now) →
         (S.left source.new ≡ S.left source.old) × (S.faults source.new ≡ S.faults source.old) }
@@ -59,7 +66,7 @@ pub fn work<S: Source>(alloc: Global, words: &[String], source: &mut S) -> Resul
 }
 
 /// Runs the script that the source gives.
-fn step<S: Source>(alloc: Global, traced: bool, source: &mut S) -> Result<Made, Stop>
+fn step<S: Source>(alloc: Global, traced: bool, source: &mut S) -> Result<Made, Stop<Finding>>
     ensures made { IfOk result (λ made. (script : Script) × IsRunnable script × IfSome (S.left source.old) (λ left. IsAccepted left script) × IsMade traced script made.journal made.text) }
     ensures stop { IfErr result (λ stop. StopsStep (S.left source.old) (S.faults source.old) (S.faults source.new) stop) }
     ensures whole { MatchResult result (λ _. IsAtEnd (S.left source.new)) (λ stop. IsLeftBy stop (S.left source.new)) }
@@ -69,20 +76,20 @@ fn step<S: Source>(alloc: Global, traced: bool, source: &mut S) -> Result<Made, 
 }
 
 /// Runs the script that the bytes spell.
-fn made_from(alloc: Global, traced: bool, input: &[u8]) -> Result<Made, Stop>
+fn made_from(alloc: Global, traced: bool, input: &[u8]) -> Result<Made, Stop<Finding>>
     requires { length input.now ≤ input_limit + 1 }
     ensures made { IfOk result (λ made. (script : Script) × IsAccepted input.now script × IsMade traced script made.journal made.text) }
     ensures stop { IfErr result (λ stop. StopsRun input.now stop) }
 {
     if input.len() > READ_LIMIT {
-        return Err(Stop::Exceeded(Excess::Input));
+        return Err(found(alloc, Finding::Exceeded(Excess::Input)));
     }
     let script = runnable_script(alloc, input)?;
     made_of(alloc, traced, &script)
 }
 
 /// The script that the bytes spell, where it can be run.
-fn runnable_script(alloc: Global, input: &[u8]) -> Result<Script, Stop>
+fn runnable_script(alloc: Global, input: &[u8]) -> Result<Script, Stop<Finding>>
     requires { length input.now ≤ input_limit }
     ensures accepted { IfOk result (λ script. IsAccepted input.now script) }
     ensures fewer { IfOk result (λ script. length script.calls < 2 ^ 32) }
@@ -96,7 +103,7 @@ fn runnable_script(alloc: Global, input: &[u8]) -> Result<Script, Stop>
 }
 
 /// The script that the bytes spell.
-fn script_of(alloc: Global, input: &[u8]) -> Result<Script, Stop>
+fn script_of(alloc: Global, input: &[u8]) -> Result<Script, Stop<Finding>>
     requires { length input.now ≤ input_limit }
     ensures spelt { IfOk result (λ script. spells_script input.now script) }
     ensures fewer { IfOk result (λ script. length script.calls < 2 ^ 32) }
@@ -113,25 +120,22 @@ fn script_of(alloc: Global, input: &[u8]) -> Result<Script, Stop>
     }
 }
 
-/// The refusal of a line.
-fn refused(alloc: Global, line: u64, reason: Reason) -> Stop
-    ensures { IsStopWith (refusal_line (record { line = line; reason = reason })) result }
+/// What the refusal of a line stops a run with.
+fn refused(alloc: Global, line: u64, reason: Reason) -> Stop<Finding>
+    ensures { IsStopOf (findings.Refused (record { line = line; reason = reason })) result }
 {
-    match refusal_line(alloc, Refusal { line, reason }) {
-        Ok(note) => Stop::Refused { note },
-        Err(_) => Stop::Memory,
-    }
+    found(alloc, Finding::Refused(Refusal { line, reason }))
 }
 
 /// Whether a script is within all limits, and each line of it can be run.
-fn check_script(alloc: Global, script: &Script) -> Result<(), Stop>
+fn check_script(alloc: Global, script: &Script) -> Result<(), Stop<Finding>>
     requires ranged { IsScript script.now }
     requires fewer { length script.now.calls < 2 ^ 32 }
     ensures runnable { OnOk result (IsRunnable script.now) }
     ensures stop { IfErr result (λ stop. StopsScript script.now stop) }
 {
     if let Some(limit) = over(script) {
-        return Err(Stop::Exceeded(Excess::Script(limit)));
+        return Err(found(alloc, Finding::Exceeded(Excess::Script(limit))));
     }
     match first_later(script) {
         Some(line) => Err(refused(alloc, line, Reason::Later)),
@@ -140,11 +144,11 @@ fn check_script(alloc: Global, script: &Script) -> Result<(), Stop>
 }
 
 /// Runs a script and makes its text.
-fn made_of(alloc: Global, traced: bool, script: &Script) -> Result<Made, Stop>
+fn made_of(alloc: Global, traced: bool, script: &Script) -> Result<Made, Stop<Finding>>
     requires runnable { IsRunnable script.now }
     requires fewer { length script.now.calls < 2 ^ 32 }
     ensures made { IfOk result (λ made. IsMade traced script.now made.journal made.text) }
-    ensures stop { IfErr result (λ stop. stop ≡ Stop.Memory) }
+    ensures stop { IfErr result (λ stop. stop ≡ stops.Memory) }
 {
     let journal = run(alloc, script)?;
     let text = text_of(alloc, traced, script, &journal)?;
@@ -165,36 +169,26 @@ fn text_of(alloc: Global, traced: bool, script: &Script, journal: &Journal) -> R
 }
 
 /// The line of the value that the bytes spell.
-fn decode(alloc: Global, format: Format, bytes: &[u8]) -> Result<Made, Stop>
+fn decode(alloc: Global, format: Format, bytes: &[u8]) -> Result<Made, Stop<Finding>>
     ensures made { IfOk result (λ made. (value : Value) × (IsValue format bytes.now value × IsMadeOf value made.journal made.text)) }
     ensures stop { IfErr result (λ stop. StopsDecode format bytes.now stop) }
-    ensures decodes { (value : Value) → IsValue format bytes.now value → MatchResult result (λ made. IsMadeOf value made.journal made.text) (λ stop. stop ≡ Stop.Memory) }
-    ensures faults { (fault : Fault) → IsFault format bytes.now fault → MatchResult result (λ _. ⊥) (λ stop. IsStopWith (fault_line fault) stop) }
+    ensures decodes { (value : Value) → IsValue format bytes.now value → MatchResult result (λ made. IsMadeOf value made.journal made.text) (λ stop. stop ≡ stops.Memory) }
+    ensures faults { (fault : Fault) → IsFault format bytes.now fault → MatchResult result (λ _. ⊥) (λ stop. IsStopOf (findings.Undecodable fault) stop) }
 {
     match value_of(alloc, format, bytes) {
         Ok(value) => made_value(alloc, &value),
-        Err(Undecoded::Faulty(fault)) => Err(refusal_of(alloc, fault)),
+        Err(Undecoded::Faulty(fault)) => Err(found(alloc, Finding::Undecodable(fault))),
         Err(Undecoded::Memory) => Err(Stop::Memory),
     }
 }
 
 /// The line of a value.
-fn made_value(alloc: Global, value: &Value) -> Result<Made, Stop>
-    ensures { MatchResult result (λ made. IsMadeOf value.now made.journal made.text) (λ stop. stop ≡ Stop.Memory) }
+fn made_value(alloc: Global, value: &Value) -> Result<Made, Stop<Finding>>
+    ensures { MatchResult result (λ made. IsMadeOf value.now made.journal made.text) (λ stop. stop ≡ stops.Memory) }
 {
     let text = value_line(alloc, value)?;
     Ok(Made {
         journal: Journal::new(alloc),
         text,
     })
-}
-
-/// The refusal for a fault.
-fn refusal_of(alloc: Global, fault: Fault) -> Stop
-    ensures { IsStopWith (fault_line fault) result }
-{
-    match fault_line(alloc, fault) {
-        Ok(note) => Stop::Refused { note },
-        Err(_) => Stop::Memory,
-    }
 }

@@ -3,7 +3,7 @@
 ghost use Rattle.std.specs.Prelude.{◌≡◌, ◌≤◌, ◌<◌, ◌^◌, ◌/◌, length};
 ghost use Rattle.stripe_layout.specs.Layout.{IsArray};
 ghost use Rattle.stripe_check.specs.Cuts.{most_blocks};
-ghost use Rattle.xor_cli.specs.Later.{can_serve_in, is_one_piece, can_do, can_call, later_call, first_later};
+ghost use Rattle.xor_cli.specs.Unsupported.{can_serve_in, is_one_piece, can_do, can_call, later_call, first_later};
 
 use host_scripts::{Action, Call, Script};
 use stripe_layout::Mode;
@@ -87,8 +87,8 @@ fn later_call(script: &Script, calls: &[Call]) -> Option<u64>
     None
 }
 
-/// The first line that asks for what can't be run yet, counted from 1: other hosts, calls and modes than those that can,
-/// and turns.
+/// The first line that asks for what can't be run yet, counted from 1: other hosts, calls and modes than
+/// those that can, and turns.
 pub fn first_later(script: &Script) -> Option<u64>
     requires array { IsArray script.now.geometry }
     requires fewer { length script.now.calls < 2 ^ 32 }

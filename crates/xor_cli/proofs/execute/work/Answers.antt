@@ -1,7 +1,7 @@
 use Rattle.xor_cli.specs.declared.words.Command.TheVariants as commands
 use Rattle.xor_cli.proofs.WordLaws.{same-decode, unread-decode}
 use Rattle.xor_cli.proofs.Work.{value-moved, fault-moved}
-use Rattle.xor_cli.proofs.working.work.Goals as goal
+use Rattle.xor_cli.proofs.execute.work.Goals as goal
 
 pub returns-in-Some-Decode-clause-decodes : goal.returns-in-Some-Decode-clause-decodes
 returns-in-Some-Decode-clause-decodes g c = λ f b value spelt is.

@@ -4,7 +4,7 @@ use Rattle.outer_io.specs.Outside.{input_limit}
 use Rattle.xor_cli.specs.Inputs.{IsAccepted}
 use Rattle.xor_cli.specs.Statuses.{StopsRun}
 use Rattle.xor_cli.proofs.Work.{accepted-left, stops-step, stops-left}
-use Rattle.xor_cli.proofs.working.step.Goals as goal
+use Rattle.xor_cli.proofs.execute.step.Goals as goal
 
 pub returns-clause-made : goal.returns-clause-made
 returns-clause-made g c =

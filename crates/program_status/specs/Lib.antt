@@ -1,0 +1,5 @@
+pub mod Statuses
+pub mod Notes
+pub mod Stops
+pub mod Words
+pub mod Endings
