@@ -6,9 +6,9 @@ use Rattle.std.proofs.lemmas.List.{take_all}
 use Rattle.std.proofs.lemmas.Option.{none-some, same_Some}
 use Rattle.array_journal.specs.declared.entry.Entry.{Entry}
 use Rattle.array_journal.specs.Run.{IsSetting}
-use Rattle.array_journal.proofs.GuardedRuns.{guarded_law}
-use Rattle.array_journal.proofs.KeptRuns.{conserved_law}
-use Rattle.array_journal.proofs.ReadsRight.{legal_law}
+use Rattle.array_journal.proofs.runs.GuardedRuns.{guarded_law}
+use Rattle.array_journal.proofs.owed.KeptRuns.{conserved_law}
+use Rattle.array_journal.proofs.reads.ReadsRight.{legal_law}
 use Rattle.host_scripts.specs.declared.script.Script.{Script}
 use Rattle.host_scripts.specs.Scripts as scripts
 use Rattle.host_scripts.specs.Scripts.{IsScript, spelling}
@@ -17,16 +17,16 @@ use Rattle.host_scripts.proofs.Again.{script-again}
 use Rattle.host_scripts.proofs.Loops.{same-ok}
 use Rattle.outer_io.specs.Outside.{input_limit}
 use Rattle.stripe_check.specs.Reports.{setting_of, report_of}
-use Rattle.stripe_check.specs.Traces.{entry_line, trace_of}
+use Rattle.journal_text.specs.Traces.{entry_line, trace_of}
 use Rattle.trace_check.specs.declared.checking.findings.Finding.{Finding}
 use Rattle.trace_check.specs.declared.checking.findings.Finding.TheVariants.{TooLong, Refused, Over, TextLine, RunEntry, Unasked, ReportLine}
-use Rattle.trace_check.specs.declared.checking.findings.Stop.{Stop}
-use Rattle.trace_check.specs.declared.checking.findings.Stop.TheVariants.{Usage, ReadFault, Found, Memory}
+use Rattle.program_status.specs.declared.stops.Stop.{Stop}
+use Rattle.program_status.specs.declared.stops.Stop.TheVariants.{Usage, ReadFault, Found, Memory}
 use Rattle.trace_check.specs.Endings.{StopsBy, StopsCheck, IsRunOf}
 use Rattle.trace_check.specs.Findings.{HasJournal, IsRunIn, IsFoundOf, IsFoundFor, IsFoundIn, IsFoundAt, IsFound, IsAccepted, IsSound}
 use Rattle.trace_check.specs.Inputs.{Parts, parts_of}
 use Rattle.trace_check.proofs.Inputs.{parts-whole}
-use Rattle.trace_check.proofs.TraceLaws.{line-longer, no-fault, one-journal}
+use Rattle.journal_text.proofs.TraceLaws.{line-longer, no-fault, one-journal}
 
 -- an entry has a line, and a line its end
 pub trace-long : (journal : List Entry) → length journal ≤ length (trace_of journal)
@@ -158,7 +158,7 @@ found-read left bytes e (RunEntry n) is = let P : List ℕ → Type 0 = λ b. Is
 found-read left bytes e Unasked is = let P : List ℕ → Type 0 = λ b. IsFound b Unasked in subst P (whole-read left bytes e is.0) is
 found-read left bytes e (ReportLine n) is = let P : List ℕ → Type 0 = λ b. IsFound b (ReportLine n) in subst P (whole-read left bytes e is.0) is
 
-pub stops-read : (left : Option (List ℕ)) (bytes : List ℕ) (before after : ℕ) (stop : Stop) → IfSome left (λ all. bytes ≡ take (input_limit + 1) all) → StopsBy (IsFound bytes) stop → StopsCheck left before after stop
+pub stops-read : (left : Option (List ℕ)) (bytes : List ℕ) (before after : ℕ) (stop : Stop Finding) → IfSome left (λ all. bytes ≡ take (input_limit + 1) all) → StopsBy (IsFound bytes) stop → StopsCheck left before after stop
 stops-read left bytes before after Usage e s = absurd s
 stops-read left bytes before after ReadFault e s = absurd s
 stops-read None bytes before after (Found f note) e s = (tt, s.1)

@@ -8,9 +8,9 @@ use Rattle.stripe_check.specs.Jobs.{Job}
 use Rattle.stripe_check.specs.Steps.{Step}
 use Rattle.std.specs.Prelude.{filter, true, ◌↔◌, IsTrue, Bool, ◌<◌, Option}
 use Rattle.host_scripts.specs.declared.script.Script.{Script}
-use Rattle.trace_check.specs.declared.asking.marks.Mark.{Mark}
+use Rattle.trace_check.specs.declared.asking.call_steps.Mark.{Mark}
 use Rattle.trace_check.specs.Asking.{AreMarksOf}
-use Rattle.trace_check.specs.AskingTurns.{AreMarksInTurn}
+use Rattle.trace_check.specs.HostOrder.{AreMarksInTurn}
 use Rattle.trace_check.proofs.AskingMarks.{marked-calls}
 
 pub marked-turns : (script : Script) (b : Bool) (marks : List Mark) (past : List Entry) → AreMarksOf marks past

@@ -7,7 +7,7 @@ use Rattle.stripe_check.specs.Asked.{call_list, calls_seen}
 use Rattle.stripe_check.specs.Steps.{call_of, steps_of, steps_by}
 use Rattle.stripe_check.proofs.Journals.{read_more}
 use Rattle.trace_check.specs.Asking.{IsMarkOf, AreMarksOf, steps_in, steps_with, calls_in}
-use Rattle.trace_check.specs.declared.asking.marks.Mark.{Mark}
+use Rattle.trace_check.specs.declared.asking.call_steps.Mark.{Mark}
 
 pub read_mark : (xs : List Mark) (k : ℕ) (e : Mark) → k < length xs → get_or xs k e ≡ e → reverse (take (k + 1) xs) ≡ e ∷ reverse (take k xs)
 read_mark xs k e lt h =

@@ -1,13 +1,11 @@
--- What words ask for, and what stops a check.
-use Rattle.std.proofs.Common.{◌≡◌, ℕ, List, [], ◌∷◌, Bool, true, false, Some, None, refl, sym, ap, subst, ◌∙◌, inl, inr}
+-- What words ask for.
+use Rattle.std.proofs.Common.{◌≡◌, ℕ, List, [], ◌∷◌, Bool, true, false, Some, None, sym, ap, ◌∙◌}
 use Rattle.std.specs.Prelude.{IsTrue, IsFalse, codes}
 use Rattle.std.specs.Str.{bytes_eq}
 use Rattle.std.proofs.lemmas.Slice.Eq.{bytes_eq-Decides}
 use Rattle.std.proofs.lemmas.Option.{none-some, same_Some}
-use Rattle.trace_check.specs.declared.checking.findings.Finding.{Finding}
-use Rattle.trace_check.specs.declared.checking.findings.Stop.{Stop}
-use Rattle.trace_check.specs.declared.checking.findings.Stop.TheVariants.{Usage, ReadFault, Found, Memory}
-use Rattle.trace_check.specs.Endings.{AsksCheck, single_of, StopsBy, IsStopOf}
+use Rattle.program_status.specs.Words.{single_of}
+use Rattle.trace_check.specs.Endings.{AsksCheck}
 
 single-is : (words : List (List ℕ)) (word : List ℕ) → single_of words ≡ Some word → words ≡ word ∷ []
 single-is [] word e = absurd (none-some word e)
@@ -25,15 +23,3 @@ asks_no words word r e f t asks =
 
 pub asks_none : (words : List (List ℕ)) → single_of words ≡ None → AsksCheck words → ⊥
 asks_none words e asks = none-some (codes "check") (sym e ∙ ap single_of asks)
-
--- a finding's stop, where the finding holds
-pub stop-found : (Is : Finding → Type 0) (finding : Finding) (stop : Stop) → IsStopOf finding stop → Is finding → StopsBy Is stop
-stop-found Is finding stop (inl e) is = let P : Stop → Type 0 = λ s. StopsBy Is s in subst P (sym e) (is, refl)
-stop-found Is finding stop (inr e) is = let P : Stop → Type 0 = λ s. StopsBy Is s in subst P (sym e) tt
-
--- what holds of each finding holds of its stop
-pub stops-weaker : (Is Other : Finding → Type 0) → ((f : Finding) → Is f → Other f) → (stop : Stop) → StopsBy Is stop → StopsBy Other stop
-stops-weaker Is Other weaker Usage s = absurd s
-stops-weaker Is Other weaker ReadFault s = absurd s
-stops-weaker Is Other weaker (Found finding note) s = (weaker finding s.0, s.1)
-stops-weaker Is Other weaker Memory s = tt

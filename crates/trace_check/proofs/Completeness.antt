@@ -1,31 +1,30 @@
 -- Which statuses an input is answered with, one that is accepted and one that isn't.
 use Rattle.std.proofs.Common.{◌≡◌, ◌≢◌, ℕ, List, [], ◌∷◌, length, Option, Some, None, inl, inr, ◌⊎◌, ap, sym, subst, ◌∙◌}
-use Rattle.std.specs.Prelude.{IfSome, Result, Ok, Err, MatchResult}
+use Rattle.std.specs.Prelude.{IfSome}
 use Rattle.std.specs.Io.KnownBytes.{Appends}
 use Rattle.array_journal.specs.declared.entry.Entry.{Entry}
 use Rattle.host_scripts.specs.declared.script.Script.{Script}
-use Rattle.outer_io.specs.declared.input.InputFault.{InputFault}
-use Rattle.outer_io.specs.declared.input.InputFault.TheVariants as faults
-use Rattle.outer_io.specs.Outside.{HasRisen, AppendsPrefix}
+use Rattle.outer_io.specs.Outside.{HasRisen}
+use Rattle.program_status.specs.declared.stops.Stop.{Stop}
+use Rattle.program_status.specs.declared.stops.Stop.TheVariants.{Usage, ReadFault, Found, Memory}
+use Rattle.program_status.specs.Statuses.{IsOneOf}
+use Rattle.program_status.specs.Endings as endings
+use Rattle.program_status.specs.Endings.{AfterReading, IsHanded, IsInputTaken}
+use Rattle.program_status.proofs.Endings.{handed-cut_short, noted-after, noted-cut_short, noted-finding}
 use Rattle.trace_check.specs.declared.checking.findings.Finding.{Finding}
-use Rattle.trace_check.specs.declared.checking.findings.Finding.TheVariants.{TooLong, Refused, Over, TextLine, RunEntry, Unasked, ReportLine}
-use Rattle.trace_check.specs.declared.checking.findings.Stop.{Stop}
-use Rattle.trace_check.specs.declared.checking.findings.Stop.TheVariants.{Usage, ReadFault, Found, Memory}
-use Rattle.trace_check.specs.Endings.{AfterReading, AsksCheck, IsCutShort, IsNoteCutShort, IsNoted, IsOneOf, IsInputTaken, IsTold, StopsFor, finding_status, status_of, note_of}
-use Rattle.trace_check.specs.Faulted.{stop_of}
+use Rattle.trace_check.specs.Endings.{AsksCheck, IsCutShort, IsFoundBy, IsNoteCutShort, IsNoted, IsTold, StopsFor, finding_status, verdict_of}
 use Rattle.trace_check.specs.Findings.{IsAccepted, IsFound}
 use Rattle.trace_check.specs.Notes.{finding_line, accepted_line}
 use Rattle.trace_check.proofs.Accepted.{accepted-not, one-run}
 use Rattle.trace_check.proofs.OneFinding.{one-finding}
 
 -- what becomes of noting what stopped a check
-abbrev pub NotedStop : ℕ → Stop → Option (List ℕ) → Option (List ℕ) → ℕ → ℕ → Type 0
-NotedStop status stop old new before after = ((status ≡ status_of stop) × Appends old new (note_of stop)) ⊎ ((status ≡ 4) × HasRisen before after)
+abbrev pub NotedStop : ℕ → Stop Finding → Option (List ℕ) → Option (List ℕ) → ℕ → ℕ → Type 0
+NotedStop status stop old new before after = endings.IsNoted verdict_of stop old new before after status
 
 -- what becomes of handing out the line of a run
 abbrev pub HandedOut : ℕ → Option (List ℕ) → Option (List ℕ) → ℕ → ℕ → List ℕ → Type 0
-HandedOut status old new before after text =
-    ((status ≡ 0) × Appends old new text) ⊎ ((status ≡ 4) × HasRisen before after × AppendsPrefix old new text)
+HandedOut status old new before after text = IsHanded 0 text old new before after status
 
 -- the answers to an input that is accepted, and to one that is found to be something else
 abbrev pub Accepts : Option (List ℕ) → ℕ → Option (List ℕ) → Option (List ℕ) → Type 0
@@ -52,81 +51,64 @@ told-finds words (Some input) text status old new told asks = λ f is. absurd (a
 
 -- ---- what stops a check
 
-pub stop-accepts : (words : List (List ℕ)) (left : Option (List ℕ)) (before after status : ℕ) (stop : Stop) (old new : Option (List ℕ)) (nb na : ℕ) (held given : Option (List ℕ)) → StopsFor words left before after stop → NotedStop status stop old new nb na
+pub stop-accepts : (words : List (List ℕ)) (left : Option (List ℕ)) (before after status : ℕ) (stop : Stop Finding) (old new : Option (List ℕ)) (nb na : ℕ) (held given : Option (List ℕ)) → StopsFor words left before after stop → NotedStop status stop old new nb na
     → AsksCheck words → Accepts left status held given
 stop-accepts words None before after status stop old new nb na held given s e asks = tt
 stop-accepts words (Some input) before after status stop old new nb na held given s (inr e) asks = λ script journal a. inr (inr (inl e.0))
 stop-accepts words (Some input) before after status Usage old new nb na held given s (inl e) asks = absurd (s asks)
 stop-accepts words (Some input) before after status ReadFault old new nb na held given s (inl e) asks = λ script journal a. inr (inl e.0)
-stop-accepts words (Some input) before after status (Found f note) old new nb na held given s (inl e) asks = λ script journal a. absurd (accepted-not input script journal a f s.1.0)
+stop-accepts words (Some input) before after status (Found f note) old new nb na held given s (inl e) asks = λ script journal a. absurd (accepted-not input script journal a f s.0.1)
 stop-accepts words (Some input) before after status Memory old new nb na held given s (inl e) asks = λ script journal a. inr (inr (inr (inl e.0)))
 
-pub stop-finds : (words : List (List ℕ)) (left : Option (List ℕ)) (before after status : ℕ) (stop : Stop) (old new : Option (List ℕ)) (nb na : ℕ) → StopsFor words left before after stop → NotedStop status stop old new nb na
+pub stop-finds : (words : List (List ℕ)) (left : Option (List ℕ)) (before after status : ℕ) (stop : Stop Finding) (old new : Option (List ℕ)) (nb na : ℕ) → StopsFor words left before after stop → NotedStop status stop old new nb na
     → AsksCheck words → Finds left status old new
 stop-finds words None before after status stop old new nb na s e asks = tt
 stop-finds words (Some input) before after status stop old new nb na s (inr e) asks = λ f is. inr (inr (inl e.0))
 stop-finds words (Some input) before after status Usage old new nb na s (inl e) asks = absurd (s asks)
 stop-finds words (Some input) before after status ReadFault old new nb na s (inl e) asks = λ f is. inr (inl e.0)
 stop-finds words (Some input) before after status (Found g note) old new nb na s (inl e) asks = λ f is.
-    let same = one-finding input g f s.1.0 is in
-    inl (e.0 ∙ ap (λ (x : Finding). finding_status x) same, subst (λ (t : List ℕ). Appends old new t) (s.1.1 ∙ ap (λ (x : Finding). finding_line x) same) e.1)
+    let same = one-finding input g f s.0.1 is in
+    inl (e.0 ∙ ap (λ (x : Finding). finding_status x) same, subst (λ (t : List ℕ). Appends old new t) (s.1 ∙ ap (λ (x : Finding). finding_line x) same) e.1)
 stop-finds words (Some input) before after status Memory old new nb na s (inl e) asks = λ f is. inr (inr (inr (inl e.0)))
 
-pub stop-complete : (words : List (List ℕ)) (left : Option (List ℕ)) (before after out_before out_after status : ℕ) (stop : Stop) (old new : Option (List ℕ)) (nb na : ℕ) → StopsFor words left before after stop → NotedStop status stop old new nb na
+pub stop-complete : (words : List (List ℕ)) (left : Option (List ℕ)) (before after out_before out_after status : ℕ) (stop : Stop Finding) (old new : Option (List ℕ)) (nb na : ℕ) → StopsFor words left before after stop → NotedStop status stop old new nb na
     → AsksCheck words → IfSome left (λ input. (script : Script) (journal : List Entry) → IsAccepted input script journal → ¬ HasRisen before after → ¬ HasRisen out_before out_after → ¬ HasRisen nb na → IsOneOf (0 ∷ 5 ∷ []) status)
 stop-complete words None before after ob oa status stop old new nb na s e asks = tt
 stop-complete words (Some input) before after ob oa status stop old new nb na s (inr e) asks = λ script journal a read written noted. absurd (noted e.1)
 stop-complete words (Some input) before after ob oa status Usage old new nb na s (inl e) asks = absurd (s asks)
 stop-complete words (Some input) before after ob oa status ReadFault old new nb na s (inl e) asks = λ script journal a read written noted. absurd (read s.1)
-stop-complete words (Some input) before after ob oa status (Found f note) old new nb na s (inl e) asks = λ script journal a read written noted. absurd (accepted-not input script journal a f s.1.0)
+stop-complete words (Some input) before after ob oa status (Found f note) old new nb na s (inl e) asks = λ script journal a read written noted. absurd (accepted-not input script journal a f s.0.1)
 stop-complete words (Some input) before after ob oa status Memory old new nb na s (inl e) asks = λ script journal a read written noted. inr (inl e.0)
 
--- ---- a stop itself isn't a write fault
-
-finding-not_four : (f : Finding) → finding_status f ≢ 4
-finding-not_four TooLong = λ a. cc a
-finding-not_four (Refused n cause) = λ a. cc a
-finding-not_four (Over limit) = λ a. cc a
-finding-not_four (TextLine n) = λ a. cc a
-finding-not_four (RunEntry n) = λ a. cc a
-finding-not_four Unasked = λ a. cc a
-finding-not_four (ReportLine n) = λ a. cc a
-
-pub not-four : (stop : Stop) → status_of stop ≢ 4
-not-four Usage = λ a. cc a
-not-four ReadFault = λ a. cc a
-not-four (Found f note) = finding-not_four f
-not-four Memory = λ a. cc a
+-- ---- a write fault
 
 -- what a stop says once the input is read; one that comes of the words says nothing
-read-after : (Said : Type 0) (words : List (List ℕ)) (left : Option (List ℕ)) (before after : ℕ) (stop : Stop) → StopsFor words left before after stop → (AsksCheck words → AfterReading Said stop) → AfterReading Said stop
+read-after : (Said : Type 0) (words : List (List ℕ)) (left : Option (List ℕ)) (before after : ℕ) (stop : Stop Finding) → StopsFor words left before after stop → (AsksCheck words → AfterReading Said stop) → AfterReading Said stop
 read-after Said words left before after Usage s whole = tt
 read-after Said words left before after ReadFault s whole = tt
-read-after Said words left before after (Found f note) s whole = whole s.0
+read-after Said words left before after (Found f note) s whole = whole s.0.0
 read-after Said words left before after Memory s whole = tt
 
-pub stop-cut_short : (words : List (List ℕ)) (left rest : Option (List ℕ)) (before after status : ℕ) (stop : Stop) (old new : Option (List ℕ)) (nb na : ℕ) → StopsFor words left before after stop
+pub stop-cut_short : (words : List (List ℕ)) (left rest : Option (List ℕ)) (before after status : ℕ) (stop : Stop Finding) (old new : Option (List ℕ)) (nb na : ℕ) → StopsFor words left before after stop
     → (AsksCheck words → AfterReading (IsInputTaken left rest) stop) → NotedStop status stop old new nb na
-    → (status ≡ 4 → AppendsPrefix old new (note_of stop)) → status ≡ 4 → HasRisen nb na × IsNoteCutShort words left rest before after old new
-stop-cut_short words left rest before after status stop old new nb na s whole (inl e) begun four = absurd (not-four stop (sym e.0 ∙ four))
-stop-cut_short words left rest before after status stop old new nb na s whole (inr e) begun four =
-    (e.1, (stop, (s, read-after (IsInputTaken left rest) words left before after stop s whole, begun four)))
+    → status ≡ 4 → HasRisen nb na × IsNoteCutShort words left rest before after old new
+stop-cut_short words left rest before after status stop old new nb na s whole e four =
+    let cut = noted-cut_short verdict_of stop old new nb na status e four in
+    (cut.0, (stop, (s, read-after (IsInputTaken left rest) words left before after stop s whole, cut.1)))
 
 pub told-cut_short : (words : List (List ℕ)) (left rest : Option (List ℕ)) (text : List ℕ) (status : ℕ) (old new : Option (List ℕ)) (ob oa : ℕ) → IsTold words left text
     → (AsksCheck words → IsInputTaken left rest) → HandedOut status old new ob oa text → status ≡ 4 → HasRisen ob oa × IsCutShort words left old new × IsInputTaken left rest
-told-cut_short words left rest text status old new ob oa told whole (inl e) four = let no : 0 ≡ 4 = sym e.0 ∙ four in absurd (cc no)
-told-cut_short words left rest text status old new ob oa told whole (inr e) four = (e.1, (text, (told, e.2)), whole told.0)
+told-cut_short words left rest text status old new ob oa told whole e four =
+    let cut = handed-cut_short text old new ob oa status e four in
+    (cut.0, (text, (told, cut.1)), whole told.0)
 
 -- ---- a status that findings alone have
 
-pub stop-noted : (words : List (List ℕ)) (left : Option (List ℕ)) (before after status n : ℕ) (stop : Stop) (old new : Option (List ℕ)) (nb na : ℕ) → StopsFor words left before after stop → NotedStop status stop old new nb na
+pub stop-noted : (words : List (List ℕ)) (left : Option (List ℕ)) (before after status n : ℕ) (stop : Stop Finding) (old new : Option (List ℕ)) (nb na : ℕ) → StopsFor words left before after stop → NotedStop status stop old new nb na
     → status ≡ n → n ≢ 3 → n ≢ 4 → n ≢ 5 → n ≢ 64 → IsNoted words left n old new
-stop-noted words left before after status n stop old new nb na s (inr e) is three four five usage = absurd (four (sym is ∙ e.0))
-stop-noted words left before after status n Usage old new nb na s (inl e) is three four five usage = absurd (usage (sym is ∙ e.0))
-stop-noted words left before after status n ReadFault old new nb na s (inl e) is three four five usage = absurd (three (sym is ∙ e.0))
-stop-noted words left before after status n (Found f note) old new nb na s (inl e) is three four five usage =
-    (s.0, (f, (s.1.0, (sym e.0 ∙ is, subst (λ (t : List ℕ). Appends old new t) s.1.1 e.1))))
-stop-noted words left before after status n Memory old new nb na s (inl e) is three four five usage = absurd (five (sym is ∙ e.0))
+stop-noted words left before after status n stop old new nb na s e is three four five usage =
+    let found = noted-finding (AsksCheck words → ⊥) (AsksCheck words) (AsksCheck words) before after verdict_of finding_line (IsFoundBy words left) stop old new nb na status n s e is three four five usage in
+    (found.1.0.0, (found.0, (found.1.0.1, found.1.1)))
 
 -- ---- what is read
 
@@ -138,24 +120,10 @@ not-read status n e zero one two seven (inr (inr (inl a))) = two (sym e ∙ a)
 not-read status n e zero one two seven (inr (inr (inr (inl a)))) = seven (sym e ∙ a)
 not-read status n e zero one two seven (inr (inr (inr (inr none)))) = absurd none
 
-pub stop-taken : (Said : Type 0) (status : ℕ) (stop : Stop) (old new : Option (List ℕ)) (nb na : ℕ) → AfterReading Said stop → NotedStop status stop old new nb na → IsOneOf (0 ∷ 1 ∷ 2 ∷ 7 ∷ []) status → Said
-stop-taken Said status stop old new nb na said (inr e) one = absurd (not-read status 4 e.0 (λ a. cc a) (λ a. cc a) (λ a. cc a) (λ a. cc a) one)
-stop-taken Said status Usage old new nb na said (inl e) one = absurd (not-read status 64 e.0 (λ a. cc a) (λ a. cc a) (λ a. cc a) (λ a. cc a) one)
-stop-taken Said status ReadFault old new nb na said (inl e) one = absurd (not-read status 3 e.0 (λ a. cc a) (λ a. cc a) (λ a. cc a) (λ a. cc a) one)
-stop-taken Said status (Found f note) old new nb na said (inl e) one = said
-stop-taken Said status Memory old new nb na said (inl e) one = absurd (not-read status 5 e.0 (λ a. cc a) (λ a. cc a) (λ a. cc a) (λ a. cc a) one)
-
-after-any : (Said : Type 0) (stop : Stop) → Said → AfterReading Said stop
-after-any Said Usage said = tt
-after-any Said ReadFault said = tt
-after-any Said (Found f note) said = said
-after-any Said Memory said = tt
-
--- what is known once the input is read, of whatever comes after
-pub after-both : {X : Type 0} (Said : Type 0) (r : Result X Stop) → Said → MatchResult r (λ x. Said) (λ stop. AfterReading Said stop)
-after-both Said (Ok x) said = said
-after-both Said (Err stop) said = after-any Said stop said
-
-pub after-fault : (Said : Type 0) (fault : InputFault) → AfterReading Said (stop_of fault)
-after-fault Said faults.Failed = tt
-after-fault Said faults.Memory = tt
+pub stop-taken : (Said : Type 0) (status : ℕ) (stop : Stop Finding) (old new : Option (List ℕ)) (nb na : ℕ) → AfterReading Said stop → NotedStop status stop old new nb na → IsOneOf (0 ∷ 1 ∷ 2 ∷ 7 ∷ []) status → Said
+stop-taken Said status stop old new nb na said e one =
+    noted-after Said verdict_of stop old new nb na status said e
+    (λ is. not-read status 3 is (λ a. cc a) (λ a. cc a) (λ a. cc a) (λ a. cc a) one)
+    (λ is. not-read status 4 is (λ a. cc a) (λ a. cc a) (λ a. cc a) (λ a. cc a) one)
+    (λ is. not-read status 5 is (λ a. cc a) (λ a. cc a) (λ a. cc a) (λ a. cc a) one)
+    (λ is. not-read status 64 is (λ a. cc a) (λ a. cc a) (λ a. cc a) (λ a. cc a) one)

@@ -7,7 +7,7 @@ use Rattle.array_journal.specs.Entries.{name_of, at_lt}
 use Rattle.array_journal.specs.May.{May}
 use Rattle.array_journal.specs.Merge.{Rises}
 use Rattle.array_journal.specs.Run.{ComesLater, Grows, Run}
-use Rattle.array_journal.proofs.BeginningLaws.{beginning-run}
+use Rattle.array_journal.proofs.runs.BeginningLaws.{beginning-run}
 use Rattle.stripe_check.proofs.Journals.{read_more}
 
 rises-at : (journal : List Entry) (j : ℕ) (d : Entry) → Rises journal → suc j < length journal → at_lt (name_of (get_or journal j d)) (name_of (get_or journal (suc j) d)) ≡ true

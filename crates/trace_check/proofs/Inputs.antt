@@ -4,9 +4,8 @@ use Rattle.std.proofs.lemmas.List.{take-append-drop}
 use Rattle.std.proofs.lemmas.Option.{same_Some}
 use Rattle.trace_check.specs.declared.checking.parting.Mark.TheVariants as marks
 use Rattle.trace_check.specs.Inputs.{Parts, parts_of, parts_in, place_from, trace_place, output_line}
-use Rattle.trace_check.specs.Senses.{stripped}
-use Rattle.trace_check.specs.Steps.{◌>>=◌}
-use Rattle.trace_check.proofs.Cuts.{bind-some, stripped-takes}
+use Rattle.text_fields.specs.Reading.{stripped, ◌>>=◌}
+use Rattle.text_fields.proofs.Cuts.{bind-some, stripped-takes}
 
 pub parts-whole : (input : List ℕ) (p : Parts) → parts_of input ≡ Some p → input ≡ p.script ++ (output_line ++ (p.report ++ p.trace))
 unfolding parts_of

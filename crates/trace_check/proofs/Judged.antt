@@ -9,7 +9,8 @@ use Rattle.array_journal.specs.declared.setting.Setting.{Setting}
 use Rattle.array_journal.specs.declared.task.Task.{Task}
 use Rattle.array_journal.specs.Entries.{stamps_below}
 use Rattle.array_journal.specs.May.{May, MayAt, MayBook, MayTarget, MayClose, MaySpoil}
-use Rattle.array_journal.specs.Media.{HeldBlocks, media, held}
+use Rattle.xor_buffers.specs.declared.held.HeldBlocks.{HeldBlocks}
+use Rattle.array_journal.specs.Media.{media, held}
 use Rattle.trace_check.specs.JudgingAll.{may_book, may_target, may_at, may_follow}
 use Rattle.trace_check.specs.JudgingEnds.{may_close, may_spoil}
 use Rattle.trace_check.proofs.Deciding.{Decides-true, Decides-nothing}

@@ -18,10 +18,11 @@ use Rattle.array_journal.specs.declared.setting.Setting.{Setting}
 use Rattle.array_journal.specs.declared.task.Task.{Task}
 use Rattle.array_journal.specs.Acts.{Act, Fetches, Puts, Diffs, Takes, Holds, has_act, is_act, shuts_command, task_bytes, cdb_of}
 use Rattle.array_journal.specs.Entries.{entry_at, some_at}
-use Rattle.array_journal.specs.Lists.{slice}
+use Rattle.blocks_core.specs.Lists.{slice}
 use Rattle.array_journal.specs.Lives.{is_gone}
 use Rattle.array_journal.specs.May.{StandsBefore, SomeTask, MayAct, MayFetch, MayPut, MayDiff, MayTake, MayHold, freshes_after, bytes_named, fetched_targets}
-use Rattle.array_journal.specs.Media.{media, held, rows_held, drops}
+use Rattle.xor_buffers.specs.Held.{rows_held}
+use Rattle.array_journal.specs.Media.{media, held, drops}
 use Rattle.trace_check.specs.Judging.{task_in, opened_task}
 use Rattle.trace_check.specs.JudgingActs as j
 use Rattle.trace_check.specs.JudgingActs.{fits, is_spelt, may_act_here, has_rows, may_act, of_opened, same_bool, same_found, is_source, one_source, same_place, is_swap_for}

@@ -19,7 +19,8 @@ use Rattle.array_journal.specs.Deltas.{delta_at}
 use Rattle.array_journal.specs.Entries.{entry_at, some_at, count_before}
 use Rattle.array_journal.specs.Lives.{loss_of, life_of, is_swap_of}
 use Rattle.array_journal.specs.May.{SomeTask, MayFold, MayShut, MayGone, MayWipe, MayFresh, IsFoldSource, is_read_task, is_under_way}
-use Rattle.array_journal.specs.Media.{held, owners_of}
+use Rattle.xor_buffers.specs.Held.{owners_of}
+use Rattle.array_journal.specs.Media.{held}
 use Rattle.trace_check.specs.JudgingActs as j
 use Rattle.trace_check.specs.JudgingActs.{of_opened, same_found, is_source, same_place, is_swap_for}
 use Rattle.trace_check.proofs.Deciding.{Decides-true, Decides-false, Decides-empty, Decides-at_name, Decides-nothing, Decides-bool, Decides-found}

@@ -7,7 +7,7 @@ use Rattle.array_journal.specs.declared.entry.Entry.{Entry}
 use Rattle.array_journal.specs.declared.setting.Setting.{Setting}
 use Rattle.array_journal.specs.May.{May}
 use Rattle.array_journal.specs.Run.{Grows, Run}
-use Rattle.array_journal.proofs.BeginningLaws.{beginning-run}
+use Rattle.array_journal.proofs.runs.BeginningLaws.{beginning-run}
 use Rattle.host_scripts.specs.declared.script.Cause.{Cause}
 use Rattle.host_scripts.specs.declared.script.Limit.{Limit}
 use Rattle.host_scripts.specs.declared.script.Script.{Script}
@@ -23,7 +23,7 @@ use Rattle.trace_check.specs.Faults.{MayNotFollow, IsFirstFault}
 use Rattle.trace_check.specs.Findings.{line_ends, IsFoundOf, IsFoundFor, IsFoundIn, IsFoundAt, IsFound}
 use Rattle.trace_check.specs.Inputs.{Parts, parts_of}
 use Rattle.trace_check.proofs.Accepted.{one-script}
-use Rattle.trace_check.proofs.TraceLaws.{no-fault, one-fault, one-journal}
+use Rattle.journal_text.proofs.TraceLaws.{no-fault, one-fault, one-journal}
 
 -- ---- the first entry that may not follow
 

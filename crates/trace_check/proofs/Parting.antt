@@ -19,27 +19,27 @@ use Rattle.host_scripts.specs.declared.script.Call.{Call}
 use Rattle.host_scripts.specs.declared.script.Action.{Action}
 use Rattle.host_scripts.specs.declared.script.Action.TheVariants.{Read, Write, Fill, Raw, Lose, Reset, DropNext, Replace, Rebuild, Resync}
 use Rattle.stripe_layout.specs.declared.geometry.Geometry.{Geometry}
-use Rattle.host_scripts.specs.Scripts.{line, numeral, nibble, hex, letter, mode_text, maxima_text, call_text, order_texts, script_lines, spelling, IsScript, IsCall}
-use Rattle.host_scripts.proofs.Parts.{lacks, lacks-append}
+use Rattle.text_fields.specs.Spelling.{line, numeral, nibble, hex, upper_nibble, upper_byte, counted}
+use Rattle.host_scripts.specs.Scripts.{letter, mode_text, maxima_text, call_text, order_texts, script_lines, spelling, IsScript, IsCall}
+use Rattle.text_fields.specs.Laws.{lacks}
+use Rattle.text_fields.proofs.Cuts.{lacks-append}
 use Rattle.host_scripts.proofs.Texts.{number_rule, maxima_rule, mode_rule, order_rule}
 use Rattle.host_scripts.proofs.CallTexts.{call_rule}
 use Rattle.host_scripts.proofs.Again.{kept-ranged}
-use Rattle.stripe_check.specs.declared.brief.Tally.{Tally}
+use Rattle.stripe_check.specs.declared.command_summary.Tally.{Tally}
 use Rattle.stripe_check.specs.declared.check.Check.{Check}
 use Rattle.stripe_check.specs.declared.check.Failure.{Failure}
-use Rattle.stripe_check.specs.Texts.{upper_nibble, upper_byte, counted}
 use Rattle.stripe_check.specs.Tallies.{tally_of}
 use Rattle.stripe_check.specs.Replies.{byte_text, check_text, good_text, host_text, failure_check, replaced_text, tally_text, reply_text, read_error, write_error, cdb_error, reply_line, reply_lines, bytes_read, failure_of}
 use Rattle.stripe_check.specs.Sums.{stripes_that, has_absent, is_balanced, absent_units}
 use Rattle.stripe_check.specs.Reports.{setting_of, entries_line, stripes_line, dirty_text, dirty_line, absent_text, absent_line, summary_of, report_of}
-use Rattle.stripe_check.specs.Traces.{field, event_text, entry_line, trace_of}
+use Rattle.journal_text.specs.Traces.{field, event_text, entry_line, trace_of}
 use Rattle.trace_check.specs.declared.checking.parting.Mark.{Mark}
 use Rattle.trace_check.specs.declared.checking.parting.Mark.TheVariants as marks
 use Rattle.trace_check.specs.Inputs.{Parts, parts_of, parts_in, marked, place_from, place_or, behind_stripes, trace_place, output_line}
 use Rattle.trace_check.specs.Laws.{printed}
-use Rattle.trace_check.specs.Senses.{stripped}
-use Rattle.trace_check.specs.Steps.{◌>>=◌}
-use Rattle.trace_check.proofs.Cuts.{stripped-again}
+use Rattle.text_fields.specs.Reading.{stripped, ◌>>=◌}
+use Rattle.text_fields.proofs.Cuts.{stripped-again}
 
 -- ---- texts without the mark
 

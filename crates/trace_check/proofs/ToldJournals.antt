@@ -26,11 +26,11 @@ use Rattle.stripe_check.specs.Asked.{IsDecided, AreDecided}
 use Rattle.stripe_check.specs.Begins.{Aim, Begin, Opening, Refusal, Swapping, aim_of, begin_as, begin_aim, begin_job, begin_call, begin_of}
 use Rattle.stripe_check.specs.Jobs.{Job, Fails, Moves, Loses, Wipes, Replaces, Rebuilds, Resyncs, Transfer, illegal, first_offending, field_fault, cdb_fault, bytes_due, transfer_fault, unless, moved, reading, writing, raw_transfer, job_of, call_at}
 use Rattle.stripe_check.specs.Reports.{setting_of}
-use Rattle.trace_check.specs.Journals.{goes_on}
+use Rattle.journal_text.specs.Journals.{goes_on}
 use Rattle.trace_check.specs.Laws.{ToldJournalsLaw}
-use Rattle.trace_check.specs.Told.{IsToldSense, IsToldWhy, IsTold, IsToldEntry}
-use Rattle.trace_check.proofs.InRange.{turned, all-turned}
-use Rattle.trace_check.proofs.TraceLaws.{last_name, rises-more, last-more}
+use Rattle.journal_text.specs.Told.{IsToldSense, IsToldWhy, IsTold, IsToldEntry}
+use Rattle.journal_text.proofs.InRange.{turned, all-turned}
+use Rattle.journal_text.proofs.TraceLaws.{last_name, rises-more, last-more}
 
 -- of two that are as asked, the one that is chosen is
 chosen : {A : Type 0} (P : A → Type 0) (test : Bool) (a b : A) → P a → P b → P (cond test a b)

@@ -6,11 +6,11 @@ use Rattle.array_journal.specs.Entries.{name_of}
 use Rattle.stripe_check.specs.Steps as asked
 use Rattle.stripe_check.specs.Steps.{call_of, step_by, step_list, is_call}
 use Rattle.stripe_check.specs.Asked.{call_list}
-use Rattle.trace_check.specs.declared.asking.marks.Ending.{Ending}
-use Rattle.trace_check.specs.declared.asking.marks.Ending.TheVariants.{Done, GivenUp, Spoilt}
-use Rattle.trace_check.specs.declared.asking.marks.Mark.{Mark}
-use Rattle.trace_check.specs.declared.asking.marks.Step.{Step}
-use Rattle.trace_check.specs.declared.asking.marks.Step.TheVariants.{Begins, Ends, Refused, Lost, WipedAt, Swapped, Renewed}
+use Rattle.trace_check.specs.declared.asking.call_steps.Ending.{Ending}
+use Rattle.trace_check.specs.declared.asking.call_steps.Ending.TheVariants.{Done, GivenUp, Spoilt}
+use Rattle.trace_check.specs.declared.asking.call_steps.Mark.{Mark}
+use Rattle.trace_check.specs.declared.asking.call_steps.Step.{Step}
+use Rattle.trace_check.specs.declared.asking.call_steps.Step.TheVariants.{Begins, Ends, Refused, Lost, WipedAt, Swapped, Renewed}
 
 abbrev pub ending_of : Ending → asked.Ending
 ending_of Done = asked.Done

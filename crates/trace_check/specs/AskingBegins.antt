@@ -3,7 +3,7 @@ use Rattle.std.specs.Prelude.{ℕ, ◌==◌, ◌&&◌, Bool}
 use Rattle.stripe_layout.specs.declared.geometry.Geometry.{Geometry}
 use Rattle.array_journal.specs.declared.task.Task.{Task}
 use Rattle.array_journal.specs.Decision.{want_of}
-use Rattle.array_journal.specs.Lists.{slice}
+use Rattle.blocks_core.specs.Lists.{slice}
 use Rattle.stripe_check.specs.Begins as begins
 use Rattle.stripe_check.specs.Begins.{task_of_piece}
 use Rattle.trace_check.specs.AskingJobs.{payload_bytes}

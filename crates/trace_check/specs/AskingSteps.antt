@@ -3,7 +3,7 @@ use Rattle.std.specs.Prelude.{ℕ, List, [], option_map}
 use Rattle.std.specs.Option.{unwrap_or}
 use Rattle.std.specs.Ordering.{nat_cmp}
 use Rattle.std.specs.BTreeMap.{get}
-use Rattle.trace_check.specs.declared.asking.marks.Step.{Step}
+use Rattle.trace_check.specs.declared.asking.call_steps.Step.{Step}
 use Rattle.trace_check.specs.declared.asking.steps.CallSteps.{CallSteps}
 
 -- those of the call of a number

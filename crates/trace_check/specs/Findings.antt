@@ -14,11 +14,11 @@ use Rattle.host_scripts.specs.Limits.{limit_of}
 use Rattle.outer_io.specs.Outside.{input_limit}
 use Rattle.stripe_check.specs.Asked.{IsAsked}
 use Rattle.stripe_check.specs.Reports.{setting_of, report_of}
-use Rattle.stripe_check.specs.Traces.{trace_of}
+use Rattle.journal_text.specs.Traces.{trace_of}
 use Rattle.trace_check.specs.declared.checking.findings.Finding.{Finding}
 use Rattle.trace_check.specs.declared.checking.findings.Finding.TheVariants.{TooLong, Refused, Over, TextLine, RunEntry, Unasked, ReportLine}
 use Rattle.trace_check.specs.Inputs.{Parts, parts_of, output_line}
-use Rattle.trace_check.specs.Readable as readable
+use Rattle.journal_text.specs.Readable as readable
 use Rattle.trace_check.specs.Faults as faults
 
 -- ---- numbers of lines
@@ -66,7 +66,7 @@ pub record IsSound (input : List ℕ) (script : Script) (journal : List Entry) :
 pub record HasJournal (parts : Parts) (script : Script) (journal : List Entry) : Type 0 where
   pub spelt : scripts.Spells parts.script script
   pub within : limit_of script ≡ None
-  pub traced : readable.Spells parts.trace journal
+  pub traced : readable.SpellsTrace parts.trace journal
 
 -- an entry may not follow those before
 pub record IsNoRun (s : Setting) (journal : List Entry) (number : ℕ) : Type 0 where
@@ -98,7 +98,7 @@ IsFoundFor parts finding = (script : Script) × ((journal : List Entry) × (HasJ
 pub record IsUnspelt (parts : Parts) (script : Script) (number line : ℕ) : Type 0 where
   pub spelt : scripts.Spells parts.script script
   pub within : limit_of script ≡ None
-  pub first : readable.IsFirstFault parts.trace line
+  pub first : readable.IsFirstFaultyLine parts.trace line
   pub counted : number ≡ line_ends parts.script + 1 + line_ends parts.report + line
 
 -- the parts are those of a run
@@ -109,7 +109,7 @@ pub record IsRunIn (parts : Parts) (script : Script) (journal : List Entry) : Ty
   pub report : parts.report ≡ report_of script journal
 
 abbrev pub IsJournalOf : List ℕ → List Entry → Type 0
-IsJournalOf trace journal = readable.Spells trace journal
+IsJournalOf trace journal = readable.SpellsTrace trace journal
 
 -- what a script's bytes are found to be
 abbrev pub IsScriptFault : List ℕ → Finding → Type 0
@@ -126,7 +126,7 @@ abbrev pub IsTraceFault : List ℕ → ℕ → Finding → Type 0
 IsTraceFault trace ahead TooLong = ⊥
 IsTraceFault trace ahead (Refused number cause) = ⊥
 IsTraceFault trace ahead (Over limit) = ⊥
-IsTraceFault trace ahead (TextLine number) = (line : ℕ) × (readable.IsFirstFault trace line × (number ≡ ahead + line))
+IsTraceFault trace ahead (TextLine number) = (line : ℕ) × (readable.IsFirstFaultyLine trace line × (number ≡ ahead + line))
 IsTraceFault trace ahead (RunEntry number) = ⊥
 IsTraceFault trace ahead Unasked = ⊥
 IsTraceFault trace ahead (ReportLine number) = ⊥

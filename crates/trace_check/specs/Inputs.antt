@@ -2,11 +2,10 @@
 -- behind each byte that ends one.
 use Rattle.std.specs.Prelude.{ℕ, ◌+◌, ◌==◌, ◌&&◌, ◌||◌, not, Bool, true, false, eqb, if◌then◌else◌, List, [], ◌∷◌, length, take, drop, codes, Option, Some, None}
 use Rattle.std.specs.List.{starts_with}
-use Rattle.host_scripts.specs.Scripts.{line}
+use Rattle.text_fields.specs.Spelling.{line}
 use Rattle.trace_check.specs.declared.checking.parting.Mark.{Mark}
 use Rattle.trace_check.specs.declared.checking.parting.Mark.TheVariants as marks
-use Rattle.trace_check.specs.Senses.{stripped}
-use Rattle.trace_check.specs.Steps.{◌>>=◌}
+use Rattle.text_fields.specs.Reading.{stripped, ◌>>=◌}
 
 pub record Parts : Type 0 where
   pub script : List ℕ

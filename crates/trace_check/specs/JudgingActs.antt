@@ -19,10 +19,12 @@ use Rattle.array_journal.specs.declared.task.Task.{Task}
 use Rattle.array_journal.specs.Acts.{Act, Fetches, Puts, Diffs, Takes, Folds, Holds, has_act, is_act, is_target, shuts_command, changes_medium, task_bytes, cdb_of}
 use Rattle.array_journal.specs.Deltas.{delta_at}
 use Rattle.array_journal.specs.Entries.{entry_at, some_at, count_before, same_at}
-use Rattle.array_journal.specs.Lists.{slice}
+use Rattle.blocks_core.specs.Lists.{slice}
 use Rattle.array_journal.specs.Lives.{is_gone, loss_of, life_of, is_swap_of}
 use Rattle.array_journal.specs.May.{freshes_after, bytes_named, is_read_task, is_under_way, fetched_targets}
-use Rattle.array_journal.specs.Media.{HeldBlocks, rows_held, drops, owners_of}
+use Rattle.xor_buffers.specs.declared.held.HeldBlocks.{HeldBlocks}
+use Rattle.xor_buffers.specs.Held.{rows_held, owners_of}
+use Rattle.array_journal.specs.Media.{drops}
 use Rattle.trace_check.specs.Judging.{names_at, opened_task}
 use Rattle.trace_check.specs.JudgingEnds.{is_empty, passes_task}
 

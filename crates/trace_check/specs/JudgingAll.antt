@@ -5,7 +5,8 @@ use Rattle.array_journal.specs.declared.event.Event.{Event}
 use Rattle.array_journal.specs.declared.event.Event.TheVariants.{Fetch, Put, Diff, Take, Fold, Hold, Shut, Gone, Wiped, Fresh, Open, Close, Spoil, Note, Swap, Refuse}
 use Rattle.array_journal.specs.declared.setting.Setting.{Setting}
 use Rattle.array_journal.specs.Entries.{stamps_below}
-use Rattle.array_journal.specs.Media.{HeldBlocks, media, held}
+use Rattle.xor_buffers.specs.declared.held.HeldBlocks.{HeldBlocks}
+use Rattle.array_journal.specs.Media.{media, held}
 use Rattle.trace_check.specs.JudgingActs.{of_opened, may_fetch, may_put, may_diff, may_take, may_fold, may_hold, may_shut, may_lose, may_wipe, may_freshen}
 use Rattle.trace_check.specs.JudgingEnds.{may_open, may_close, may_spoil, may_note, may_swap, of_open}
 

@@ -14,6 +14,7 @@ use Rattle.array_journal.specs.Decision.{Decision, Opens, Refuses, want_of, deci
 use Rattle.array_journal.specs.Entries.{some_at, same_at}
 use Rattle.array_journal.specs.Lives.{swap_count, is_unfitted}
 use Rattle.array_journal.specs.May.{closed_bytes, shuts_idle, is_loss_in, is_wipe_of, is_dropped_diff, discards, opens_at}
+pub use Rattle.array_book.specs.OpenTasks.{passes_task}
 use Rattle.trace_check.specs.Judging.{names, names_at, rise_after, each_own, all_named, fold_named}
 
 abbrev pub is_empty : List ℕ → Bool
@@ -143,10 +144,6 @@ may_note past stamp i lost =
 abbrev pub may_swap : Setting → List Entry → ℕ → Bool
 may_swap s past i = is_unfitted i past && not (some_at 0 (opens_at s past i) past)
 
--- a test of the task of an open command
-abbrev pub passes_task : (Task → Bool) → Option Task → Bool
-passes_task test None = false
-passes_task test (Some task) = test task
-
+-- a command is open, and its task passes
 abbrev pub of_open : List Entry → ℕ → (Task → Bool) → Bool
 of_open past c test = is_open c past && passes_task test (task_of c past)

@@ -6,9 +6,9 @@ use Rattle.host_scripts.specs.declared.script.Script.{Script}
 use Rattle.host_scripts.specs.Scripts.{spelling}
 use Rattle.stripe_check.specs.Asked.{IsAsked}
 use Rattle.stripe_check.specs.Reports.{report_of}
-use Rattle.stripe_check.specs.Traces.{trace_of}
+use Rattle.journal_text.specs.Traces.{trace_of}
 use Rattle.trace_check.specs.Inputs.{output_line}
-use Rattle.trace_check.specs.Told.{IsToldEntry}
+use Rattle.journal_text.specs.Told.{IsToldEntry}
 
 -- a trace tells all of each sense in a journal that a script's calls ask for
 abbrev pub ToldJournalsLaw : Type 0

@@ -5,24 +5,26 @@ ghost use Rattle.host_scripts.specs.Scripts.{IsScript};
 ghost use Rattle.stripe_check.specs.Asked.{IsAsked};
 
 mod beginning;
+mod call_steps;
 mod calls;
 mod causes;
 mod deciding;
+mod host_order;
 mod jobs;
-mod marks;
+mod notes;
+mod operator_calls;
 mod owning;
+mod piece_order;
 mod pieces;
-mod serving;
+mod scan;
 mod steps;
-mod surveys;
-mod turns;
-mod walks;
 
 pub use crate::asking::beginning::setting_of;
 use crate::asking::calls::are_served;
+use crate::asking::host_order::are_in_turn;
+use crate::asking::notes::Noted;
 use crate::asking::owning::is_none_open;
-use crate::asking::surveys::survey_of;
-use crate::asking::turns::are_in_turn;
+use crate::asking::scan::survey_of;
 use array_journal::Journal;
 use blocks_core::Memory;
 use host_scripts::Script;
@@ -38,10 +40,8 @@ fn are_all(in_turn: bool, served: bool, decided: bool, owned: bool, closed: bool
 /// Whether a journal is what the calls of a script ask for: each host's calls one after another, each
 /// call with the entries that it asks for, each piece begun as the book decides, no entry of no call,
 /// and no command left open. It isn't asked whether the journal is a run. Takes memory for the marks of
-/// the entries, their index and the steps of the calls. Most entries cost a few lookups, as in
-/// `run_fault`; an opening or a refusal also goes through the pieces of its call up to its own, so a call
-/// of many pieces costs half the square of their number. Each host looks through all marks once, and the
-/// loss of a disk through all entries for its note.
+/// the entries, their index, the losses that they note and the steps of the calls. Each entry costs a few
+/// lookups, as in `run_fault`, and each host looks through all marks once.
 pub fn asked(alloc: Global, script: &Script, journal: &Journal) -> Result<bool, Memory>
     requires script { IsScript script.now }
     requires calls { length script.now.calls < 2 ^ 32 }
@@ -52,7 +52,8 @@ pub fn asked(alloc: Global, script: &Script, journal: &Journal) -> Result<bool, 
     let survey = survey_of(alloc, script, entries)?;
     let marks = survey.marks.as_slice();
     let past = Past::new(entries, &survey.index);
-    let served = are_served(alloc, script, &past, marks)?;
+    let noted = Noted::new(alloc, &past)?;
+    let served = are_served(alloc, script, &noted, marks)?;
     let in_turn = are_in_turn(script, marks);
     let closed = is_none_open(&past);
     Ok(are_all(in_turn, served, survey.decided, survey.owned, closed))

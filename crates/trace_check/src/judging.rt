@@ -2,15 +2,13 @@
 
 mod acting;
 mod acts;
-mod buffers;
-mod commands;
 pub mod decision;
+mod deltas;
 mod disks;
 pub mod ending;
 mod faults;
 mod folding;
 mod following;
-mod held;
 mod losing;
 mod naming;
 mod noting;

@@ -11,9 +11,9 @@ ghost use Rattle.stripe_check.specs.Reports.{setting_of};
 ghost use Rattle.trace_check.specs.Findings.{IsAccepted};
 ghost use Rattle.trace_check.specs.Laws.{ToldJournalsLaw, printed};
 
-use crate::ranges::printed_is_read;
 use array_journal::Journal;
 use host_scripts::Script;
+use journal_text::printed_is_read;
 
 /// A trace tells all of a journal that a script's calls ask for: no sense in it has information, command
 /// specific information or a field replaceable unit, or points at a bit or out of the CDB.

@@ -4,23 +4,11 @@
 
 mod asking;
 mod checking;
-mod events;
-mod fault;
-mod fields;
 mod judging;
 mod laws;
-mod lists;
-mod names;
-mod ranges;
-mod reading;
-mod senses;
-mod values;
-mod words;
 
 pub use asking::asked;
 pub use checking::check;
-pub use fault::TraceFault;
+pub use journal_text::{TraceFault, printed_is_read, read_trace};
 pub use judging::run_fault;
 pub use laws::{asked_journals_are_told, printed_runs_are_accepted};
-pub use ranges::printed_is_read;
-pub use reading::read_trace;

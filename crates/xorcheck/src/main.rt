@@ -4,30 +4,15 @@
 #![tactic(auto)]
 
 use outer_io::{ReaderSource, WriterSink};
+use program_status::{Status, words_after_name};
 use std::process::ExitCode;
-use std::rt::Env;
-use std::{env, io};
 use trace_check::check;
-
-/// The status of want of memory.
-const NO_MEMORY: u8 = 5;
-
-/// The words after the program's name. Words that aren't text are none, which asks for nothing.
-fn words_after_name(rt: &(impl Env + AllocGlobal)) -> io::Result<Vec<String>> {
-    match env::args(rt) {
-        Ok(mut words) => {
-            let _name = words.next();
-            Ok(words.collect(rt.alloc())?)
-        }
-        Err(error) if error.kind() == io::ErrorKind::InvalidData => Ok(Vec::new(rt.alloc())),
-        Err(error) => Err(error),
-    }
-}
 
 fn main(rt: HostRuntime) -> ExitCode {
     let Ok(words) = words_after_name(&rt) else {
+        // Where even this can't be written, the status still tells it.
         let _ = rt.eprintln("no memory");
-        return ExitCode::from(NO_MEMORY);
+        return ExitCode::from(Status::NoMemory.code());
     };
     let status = check(
         rt.alloc(),

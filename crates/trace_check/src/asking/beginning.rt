@@ -14,10 +14,11 @@ ghost use Rattle.array_journal.specs.Decision.{want_of};
 ghost use Rattle.trace_check.specs.AskingJobs.{sense_of, span_of, transfer_of, job_now, IsWithin};
 ghost use Rattle.trace_check.specs.AskingBegins.{aim_now, begin_now};
 
+use crate::asking::host_order::call_at;
 use crate::asking::jobs::{Asks, Fault, Payload, Transfer, asks_of, bytes_due, sense_made};
 use crate::asking::pieces::{Piece, piece_at};
-use crate::asking::turns::call_at;
-use crate::judging::decision::{Decision, decide};
+use crate::judging::decision::decide;
+use array_book::Decision;
 use array_journal::{Kind, Setting, Why};
 use host_scripts::Script;
 use journal_index::Past;
@@ -58,7 +59,6 @@ pub fn setting_of(script: &Script) -> Setting
     }
 }
 
-/// A piece of blocks.
 fn piece_aim<'a>(geometry: &Geometry, transfer: Transfer<'a>, piece: Piece) -> Aim<'a>
     requires array { IsArray geometry.now }
     requires from { transfer.lba ≤ piece.lba }

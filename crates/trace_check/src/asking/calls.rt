@@ -10,18 +10,18 @@ ghost use Rattle.stripe_check.specs.Steps.{steps_of};
 ghost use Rattle.trace_check.specs.Asking.{step_of, AreMarksOf};
 ghost use Rattle.trace_check.specs.AskingJobs.{job_now, sense_of};
 
+use crate::asking::call_steps::{Mark, Step};
 use crate::asking::causes::is_same_cause;
 use crate::asking::deciding::both;
 use crate::asking::jobs::{Asks, Fault, asks_of, sense_made};
-use crate::asking::marks::{Mark, Step};
+use crate::asking::notes::Noted;
+use crate::asking::operator_calls::{is_lost, is_replaced};
+use crate::asking::piece_order::{Plan, goes_through};
 use crate::asking::pieces::piece_count;
-use crate::asking::serving::{is_lost, is_replaced};
 use crate::asking::steps::steps_of_calls;
-use crate::asking::walks::{Plan, goes_through};
 use array_journal::{What, Why};
 use blocks_core::Memory;
 use host_scripts::{Call, Script};
-use journal_index::Past;
 use std::alloc::Global;
 
 fn is_failure(step: Step, fault: Fault) -> bool
@@ -91,10 +91,10 @@ fn goes_over_stripes(script: &Script, steps: &[Step]) -> bool
 }
 
 /// Whether these are the steps of what is asked.
-fn is_served_as(script: &Script, past: &Past, asks: Asks, steps: &[Step]) -> bool
+fn is_served_as(script: &Script, noted: &Noted, asks: Asks, steps: &[Step]) -> bool
     requires script { IsScript script.now }
     requires few { length steps.now < 2 ^ 32 }
-    ensures { IsTrue result ↔ IsServed script.now (reverse past.now) (job_now asks.entry) (map step_of steps.now) }
+    ensures { IsTrue result ↔ IsServed script.now (reverse noted.now) (job_now asks.entry) (map step_of steps.now) }
 {
     match asks {
         Asks::Fails { fault } => fails_so(steps, fault),
@@ -104,39 +104,40 @@ fn is_served_as(script: &Script, past: &Past, asks: Asks, steps: &[Step]) -> boo
         }
         Asks::Rebuilds { .. } => goes_over_stripes(script, steps),
         Asks::Resyncs => goes_over_stripes(script, steps),
-        Asks::Loses { target } => is_lost(past, target, steps),
+        Asks::Loses { target } => is_lost(noted, target, steps),
         Asks::Wipes { target, what } => wipes_so(steps, target, what),
         Asks::Replaces { slot } => is_replaced(slot, steps),
     }
 }
 
 /// Whether a call has the entries that it asks for, of which these are the steps.
-fn is_served(script: &Script, past: &Past, steps: &[Step], call: &Call) -> bool
+fn is_served(script: &Script, noted: &Noted, steps: &[Step], call: &Call) -> bool
     requires script { IsScript script.now }
     requires few { length steps.now < 2 ^ 32 }
-    ensures { IsTrue result ↔ IsServed script.now (reverse past.now) (job_of script.now.geometry call.now.action) (map step_of steps.now) }
+    ensures { IsTrue result ↔ IsServed script.now (reverse noted.now) (job_of script.now.geometry call.now.action) (map step_of steps.now) }
 {
     let asks = asks_of(&script.geometry, &call.action);
-    is_served_as(script, past, asks, steps)
+    is_served_as(script, noted, asks, steps)
 }
 
-/// Whether each call has.
+/// Whether each call of a script has the entries that it asks for, by the marks of all entries. Takes
+/// memory for the steps of the calls.
 pub fn are_served(
     alloc: Global,
     script: &Script,
-    past: &Past,
+    noted: &Noted,
     marks: &[Mark],
 ) -> Result<bool, Memory>
     requires script { IsScript script.now }
     requires calls { length script.now.calls < 2 ^ 32 }
-    requires marked { AreMarksOf (reverse marks.now) (reverse past.now) }
+    requires marked { AreMarksOf (reverse marks.now) (reverse noted.now) }
     requires few { length marks.now < 2 ^ 32 }
-    ensures { IfOk result (λ served. IsTrue served ↔ AreServed script.now (reverse past.now) 1 script.now.calls) }
+    ensures { IfOk result (λ served. IsTrue served ↔ AreServed script.now (reverse noted.now) 1 script.now.calls) }
 {
     let all = steps_of_calls(alloc, marks)?;
     let mut served = true;
     for (place, call) in script.calls.as_slice().iter().enumerate() {
-        let here = is_served(script, past, all.of(place as u32 + 1), call);
+        let here = is_served(script, noted, all.of(place as u32 + 1), call);
         served = both(here, served);
     }
     Ok(served)

@@ -2,7 +2,7 @@
 
 ghost use Rattle.std.specs.Prelude.{◌≡◌, ◌↔◌, ◌&&◌, IsTrue, reverse, length, option_map, replicate, ℕ, Some};
 ghost use Rattle.stripe_layout.specs.Layout.{IsArray};
-ghost use Rattle.array_journal.specs.Lists.{slice};
+ghost use Rattle.blocks_core.specs.Lists.{slice};
 ghost use Rattle.host_scripts.specs.Scripts.{IsScript};
 ghost use Rattle.stripe_check.specs.Asked.{IsDecided};
 ghost use Rattle.stripe_check.specs.Begins as begins;
@@ -28,7 +28,6 @@ fn part_of(bytes: &[u8], at: u128, len: u128) -> &[u8]
     &rest[..count]
 }
 
-/// Whether each byte is this one.
 fn is_repeated(bytes: &[u8], byte: u8) -> bool
     ensures { IsTrue result ↔ (bytes.now ≡ replicate (length bytes.now) byte) }
 {
@@ -94,7 +93,7 @@ fn is_task_of(geometry: &Geometry, aim: Aim, kind: Kind, task: &Task) -> bool
     both(placed, bytes)
 }
 
-/// Whether a task is opened.
+/// Whether what becomes of a piece is that this task is opened.
 fn opens_task(geometry: &Geometry, begin: Option<Begin>, task: &Task) -> bool
     requires { IsArray geometry.now }
     ensures { IsTrue result ↔ (option_map (begin_now geometry.now task.now.call task.now.piece) begin.entry ≡ Some (begins.Opening task.now)) }
@@ -105,7 +104,7 @@ fn opens_task(geometry: &Geometry, begin: Option<Begin>, task: &Task) -> bool
     }
 }
 
-/// Whether a piece is refused for this cause.
+/// Whether what becomes of a piece is a refusal for this cause.
 fn refuses(geometry: &Geometry, begin: Option<Begin>, why: Why) -> bool
     ensures { (call piece : ℕ) → IsTrue result ↔ (option_map (begin_now geometry.now call piece) begin.entry ≡ Some (begins.Refusal why)) }
 {
@@ -115,7 +114,7 @@ fn refuses(geometry: &Geometry, begin: Option<Begin>, why: Why) -> bool
     }
 }
 
-/// Whether a slot's disk is swapped.
+/// Whether what becomes of a piece is the swap of this slot's disk.
 fn swaps(geometry: &Geometry, begin: Option<Begin>, slot: u8) -> bool
     ensures { (call piece : ℕ) → IsTrue result ↔ (option_map (begin_now geometry.now call piece) begin.entry ≡ Some (begins.Swapping slot)) }
 {

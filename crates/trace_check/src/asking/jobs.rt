@@ -76,7 +76,6 @@ pub enum Asks<'a> {
     Resyncs,
 }
 
-/// The sense key ILLEGAL REQUEST.
 const ILLEGAL_REQUEST: u8 = 5;
 
 /// The operation codes of READ(10) and WRITE(10).
@@ -93,7 +92,7 @@ fn payload_len(payload: Payload) -> usize
     }
 }
 
-/// The bytes that are due with a command.
+/// How many bytes have to come with a command: those of its blocks where it writes, none where it reads.
 pub fn bytes_due(geometry: &Geometry, writes: bool, count: usize) -> u128
     requires { IsArray geometry.now }
     ensures { result ≡ bytes_due geometry.now (want_now writes) count }
@@ -219,7 +218,7 @@ fn asked_raw<'a>(geometry: &Geometry, cdb: &[u8], bytes: &'a [u8]) -> Asks<'a>
     }
 }
 
-/// What a call asks.
+/// What a call asks of an array of this shape, or the first test that it fails.
 pub fn asks_of<'a>(geometry: &Geometry, action: &'a Action) -> Asks<'a>
     requires { IsArray geometry.now }
     ensures value { job_now result ≡ job_of geometry.now action.now }
@@ -232,6 +231,7 @@ pub fn asks_of<'a>(geometry: &Geometry, action: &'a Action) -> Asks<'a>
                 writes: false,
                 lba: *lba,
                 count: usize::from(*count),
+                // A read brings no bytes.
                 bytes: Payload::Repeated { byte: 0, len: 0 },
             },
         ),

@@ -4,7 +4,7 @@ ghost use Rattle.std.specs.Prelude.{◌≡◌, ◌↔◌, IsTrue, reverse};
 ghost use Rattle.array_journal.specs.Run.{NoneOpen};
 ghost use Rattle.stripe_check.specs.Asked.{is_call_of, is_owned};
 
-use crate::asking::marks::call_of;
+use crate::asking::call_steps::call_of;
 use array_journal::Event;
 use host_scripts::Script;
 use journal_index::Past;
@@ -33,5 +33,5 @@ pub fn is_owned(script: &Script, past: &Past, event: &Event) -> bool
 pub fn is_none_open(past: &Past) -> bool
     ensures { IsTrue result ↔ NoneOpen (reverse past.now) }
 {
-    past.standing_len() == 0
+    past.open_len() == 0
 }

@@ -4,7 +4,7 @@ ghost use Rattle.std.specs.Prelude.{◌≡◌, ◌==◌, ◌++◌, ◌∷◌, �
 ghost use Rattle.trace_check.specs.Asking.{step_of, steps_with, steps_in};
 ghost use Rattle.trace_check.specs.AskingSteps.{steps_kept};
 
-use crate::asking::marks::{Mark, Step};
+use crate::asking::call_steps::{Mark, Step};
 use blocks_core::Memory;
 use std::alloc::Global;
 use std::collections::BTreeMap;

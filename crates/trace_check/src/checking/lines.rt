@@ -23,7 +23,7 @@ fn common_len(text: &[u8], other: &[u8]) -> usize
     len
 }
 
-/// The same, as a length.
+/// The same in the type of lengths, which a count of bytes can't pass.
 fn ends_in(bytes: &[u8]) -> usize
     ensures value { result ≡ line_ends bytes.now }
     ensures bound { result ≤ length bytes.now }

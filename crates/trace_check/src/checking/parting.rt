@@ -1,10 +1,10 @@
 //! The parts of an input.
 
 ghost use Rattle.std.specs.Prelude.{◌≡◌, ◌≤◌, ◌<◌, ◌+◌, ◌&&◌, length, drop, IfSome};
-ghost use Rattle.trace_check.specs.Steps.{Reads};
+ghost use Rattle.text_fields.specs.Reading.{Reads};
 ghost use Rattle.trace_check.specs.Inputs.{marked, place_from, trace_place, parts_of};
 
-use crate::words::strip;
+use text_fields::strip;
 
 /// What a line that parts an input begins with.
 #[derive(Clone, Copy, Debug, PartialEq, Eq)]

@@ -4,22 +4,20 @@ ghost use Rattle.std.specs.Prelude.{List, ◌≡◌, ◌≢◌, ◌⊎◌, [], �
 ghost use Rattle.std.specs.Io.KnownBytes.{Appends};
 ghost use Rattle.array_journal.specs.declared.entry.Entry.{Entry};
 ghost use Rattle.host_scripts.specs.declared.script.Script.{Script};
-ghost use Rattle.outer_io.specs.Outside.{HasRisen, AppendsPrefix};
+ghost use Rattle.outer_io.specs.Outside.{HasRisen};
 ghost use Rattle.trace_check.specs.declared.checking.findings.Finding.{Finding};
 ghost use Rattle.trace_check.specs.Findings.{IsAccepted, IsFound};
-ghost use Rattle.trace_check.specs.Endings.{texts, AsksCheck, IsOneOf, IsDone, IsCutShort, IsNoteCutShort, IsNoted, IsInputTaken, finding_status, status_of, note_of, noted_for};
+ghost use Rattle.program_status.specs.Statuses.{IsOneOf};
+ghost use Rattle.program_status.specs.Stops.{noted_for};
+ghost use Rattle.program_status.specs.Words.{texts};
+ghost use Rattle.program_status.specs.Endings.{HasCause, IsInputTaken};
+ghost use Rattle.trace_check.specs.Endings.{AsksCheck, IsDone, IsCutShort, IsNoteCutShort, IsNoted, finding_status};
 ghost use Rattle.trace_check.specs.Notes.{accepted_line, finding_line};
 
-use crate::checking::findings::Stop;
 use crate::checking::verdict::work;
-use outer_io::{Sink, Source, write_all};
+use outer_io::{Sink, Source};
+use program_status::{hand_note, hand_out};
 use std::alloc::Global;
-
-/// The status of a check that accepts.
-const ACCEPTED: u8 = 0;
-
-/// The status of a check whose write failed.
-const WRITE_FAULT: u8 = 4;
 
 /// Checks a printed run, for the one word `check`: the source gives a script, a line `output`, and then
 /// the report and the trace of a run. What is accepted is said to `out`, with the number of entries; else
@@ -43,8 +41,6 @@ pub fn check<S: Source, K: Sink, N: Sink>(
         IsNoted (texts words.now) (S.left source.old) 2 (N.written notes.old) (N.written notes.new) }
     ensures limited { result ≡ 7 →
         IsNoted (texts words.now) (S.left source.old) 7 (N.written notes.old) (N.written notes.new) }
-    ensures read_fault { result ≡ 3 →
-        AsksCheck (texts words.now) × HasRisen (S.faults source.old) (S.faults source.new) }
     ensures write_fault { result ≡ 4 →
         (HasRisen (K.faults out.old) (K.faults out.new)
         × IsCutShort (texts words.now) (S.left source.old) (K.written out.old) (K.written out.new)
@@ -53,8 +49,9 @@ pub fn check<S: Source, K: Sink, N: Sink>(
         ⊎ (HasRisen (N.faults notes.old) (N.faults notes.new)
         × IsNoteCutShort (texts words.now) (S.left source.old) (S.left source.new) (S.faults source.old) (S.faults source.new) (N.written notes.old) (N.written notes.new)
         × (K.written out.new ≡ K.written out.old)) }
-    ensures no_memory { result ≡ 5 → AsksCheck (texts words.now) }
-    ensures usage { result ≡ 64 → AsksCheck (texts words.now) → ⊥ }
+    ensures causes { HasCause (AsksCheck (texts words.now) → ⊥) (AsksCheck (texts words.now)) (AsksCheck (texts words.now))
+        (record { source = S.faults source.old; out = K.faults out.old; notes = N.faults notes.old })
+        (record { source = S.faults source.new; out = K.faults out.new; notes = N.faults notes.new }) result }
     ensures no_other { IsOneOf (0 ∷ 1 ∷ 2 ∷ 3 ∷ 4 ∷ 5 ∷ 7 ∷ 64 ∷ []) result }
 
     // Where a status comes, unless a read fails (3), a write fails (4) or memory runs out (5).
@@ -76,8 +73,8 @@ pub fn check<S: Source, K: Sink, N: Sink>(
         ¬ HasRisen (N.faults notes.old) (N.faults notes.new) →
         IsOneOf (0 ∷ 5 ∷ []) result) }
 
-    // What is taken of the source, also where the write of what was found failed: all, or one byte more than the
-    // limit. Where no check is asked for it is left alone.
+    // What is taken of the source, also where the write of what was found failed: all, or one byte more
+    // than the limit. Where no check is asked for it is left alone.
     ensures taken { AsksCheck (texts words.now) → IsOneOf (0 ∷ 1 ∷ 2 ∷ 7 ∷ []) result →
         IsInputTaken (S.left source.old) (S.left source.new) }
     ensures unread { (AsksCheck (texts words.now) → ⊥) →
@@ -91,31 +88,5 @@ pub fn check<S: Source, K: Sink, N: Sink>(
     match work(alloc, words, source) {
         Ok(text) => hand_out(out, text.as_slice()),
         Err(stop) => hand_note(notes, &stop),
-    }
-}
-
-/// Writes the line of what is accepted.
-fn hand_out<K: Sink>(out: &mut K, text: &[u8]) -> u8
-    ensures { ((result ≡ 0) × Appends (K.written out.old) (K.written out.new) text.now)
-        ⊎ ((result ≡ 4)
-        × HasRisen (K.faults out.old) (K.faults out.new)
-        × AppendsPrefix (K.written out.old) (K.written out.new) text.now) }
-{
-    match write_all(out, text) {
-        Ok(()) => ACCEPTED,
-        Err(_) => WRITE_FAULT,
-    }
-}
-
-/// Writes why nothing is accepted.
-fn hand_note<N: Sink>(notes: &mut N, stop: &Stop) -> u8
-    ensures status { ((result ≡ status_of stop.now)
-        × Appends (N.written notes.old) (N.written notes.new) (note_of stop.now))
-        ⊎ ((result ≡ 4) × HasRisen (N.faults notes.old) (N.faults notes.new)) }
-    ensures begun { result ≡ 4 → AppendsPrefix (N.written notes.old) (N.written notes.new) (note_of stop.now) }
-{
-    match write_all(notes, stop.note()) {
-        Ok(()) => stop.status(),
-        Err(_) => WRITE_FAULT,
     }
 }

@@ -11,41 +11,31 @@ ghost use Rattle.outer_io.specs.Outside.{input_limit};
 ghost use Rattle.stripe_check.specs.Asked.{IsAsked};
 ghost use Rattle.stripe_check.specs.Reports.{setting_of, report_of};
 ghost use Rattle.trace_check.specs.Findings.{IsFound, IsFoundIn, IsFoundOf, IsRunIn, IsScriptFault, IsTraceFault, IsJournalOf};
-ghost use Rattle.trace_check.specs.Endings.{texts, single_of, AsksCheck, AfterReading, IsInputTaken, IsTold, IsRunOf, StopsBy, StopsCheck, StopsFor};
-ghost use Rattle.trace_check.specs.Steps.{Reads};
+ghost use Rattle.program_status.specs.Words.{texts};
+ghost use Rattle.program_status.specs.Endings.{AfterReading, IsInputTaken};
+ghost use Rattle.trace_check.specs.Endings.{AsksCheck, IsTold, IsRunOf, StopsBy, StopsCheck, StopsFor};
 ghost use Rattle.trace_check.specs.Notes.{accepted_line};
 
 use crate::asking::{asked, setting_of};
-use crate::checking::findings::{Finding, Stop, accepted_line, found};
+use crate::checking::findings::{Finding, accepted_line};
 use crate::checking::lines::{differing_line, line_ends};
 use crate::checking::parting::parts;
-use crate::fault::TraceFault;
 use crate::judging::run_fault;
-use crate::reading::read_trace;
 use array_journal::Journal;
 use blocks_core::Bytes;
 use host_scripts::{Cause, Script, ScriptFault, over, parse};
+use journal_text::{TraceFault, read_trace};
 use outer_io::{READ_LIMIT, Source, read_input};
+use program_status::{Stop, found, single_word};
 use std::alloc::Global;
 use stripe_check::report;
 
-/// The one word.
-fn single(words: &[String]) -> Option<&str>
-    ensures { Reads (λ x. x.now) result (single_of (texts words.now)) }
-{
-    match words {
-        [word] => Some(word.as_str()),
-        _ => None,
-    }
-}
-
-/// Whether the words ask for a check.
 #[tactic(auto, using(crate::proofs::Asks::asks_yes, crate::proofs::Asks::asks_no, crate::proofs::Asks::asks_none))]
 fn asks_check(words: &[String]) -> bool
     ensures yes { IsTrue result → AsksCheck (texts words.now) }
     ensures no { IsFalse result → AsksCheck (texts words.now) → ⊥ }
 {
-    match single(words) {
+    match single_word(words) {
         Some(word) => word == "check",
         None => false,
     }
@@ -56,7 +46,7 @@ pub(crate) fn work<S: Source>(
     alloc: Global,
     words: &[String],
     source: &mut S,
-) -> Result<Bytes, Stop>
+) -> Result<Bytes, Stop<Finding>>
     ensures told { IfOk result (λ text. IsTold (texts words.now) (S.left source.old) text) }
     ensures stop { IfErr result (λ stop. StopsFor (texts words.now) (S.left source.old) (S.faults source.old) (S.faults source.new) stop) }
     // The source is read for a check alone.
@@ -72,7 +62,7 @@ pub(crate) fn work<S: Source>(
 }
 
 /// The line of the input that the source gives.
-fn source_line<S: Source>(alloc: Global, source: &mut S) -> Result<Bytes, Stop>
+fn source_line<S: Source>(alloc: Global, source: &mut S) -> Result<Bytes, Stop<Finding>>
     ensures told { IfOk result (λ text. (entries : ℕ) × (IfSome (S.left source.old) (λ bytes. IsRunOf bytes entries) × (text ≡ accepted_line entries))) }
     ensures stop { IfErr result (λ stop. StopsCheck (S.left source.old) (S.faults source.old) (S.faults source.new) stop) }
     ensures taken { MatchResult result (λ _. IsInputTaken (S.left source.old) (S.left source.new)) (λ stop. AfterReading (IsInputTaken (S.left source.old) (S.left source.new)) stop) }
@@ -82,7 +72,7 @@ fn source_line<S: Source>(alloc: Global, source: &mut S) -> Result<Bytes, Stop>
 }
 
 /// The line of an input.
-fn input_line(alloc: Global, input: &[u8]) -> Result<Bytes, Stop>
+fn input_line(alloc: Global, input: &[u8]) -> Result<Bytes, Stop<Finding>>
     requires { length input.now ≤ input_limit + 1 }
     ensures told { IfOk result (λ text. (entries : ℕ) × (IsRunOf input.now entries × (text ≡ accepted_line entries))) }
     ensures stop { IfErr result (λ stop. StopsBy (IsFound input.now) stop) }
@@ -95,7 +85,7 @@ fn input_line(alloc: Global, input: &[u8]) -> Result<Bytes, Stop>
 }
 
 /// How many entries the run has that an input has printed.
-fn entries_in(alloc: Global, input: &[u8]) -> Result<u64, Stop>
+fn entries_in(alloc: Global, input: &[u8]) -> Result<u64, Stop<Finding>>
     requires { length input.now ≤ input_limit }
     ensures run { IfOk result (λ entries. IsRunOf input.now entries) }
     ensures stop { IfErr result (λ stop. StopsBy (IsFound input.now) stop) }
@@ -108,7 +98,7 @@ fn entries_in(alloc: Global, input: &[u8]) -> Result<u64, Stop>
 }
 
 /// How many entries the run has that these parts have printed.
-fn entries_of(alloc: Global, bytes: &[u8], told: &[u8], trace: &[u8]) -> Result<u64, Stop>
+fn entries_of(alloc: Global, bytes: &[u8], told: &[u8], trace: &[u8]) -> Result<u64, Stop<Finding>>
     requires few { length bytes.now + length told.now + length trace.now ≤ input_limit }
     ensures run { IfOk result (λ entries. (script : Script) × ((journal : List Entry) × (IsRunIn (record { script = bytes.now; report = told.now; trace = trace.now }) script journal × (entries ≡ length journal)))) }
     ensures stop { IfErr result (λ stop. StopsBy (IsFoundIn (record { script = bytes.now; report = told.now; trace = trace.now })) stop) }
@@ -120,7 +110,7 @@ fn entries_of(alloc: Global, bytes: &[u8], told: &[u8], trace: &[u8]) -> Result<
 }
 
 /// The script that bytes spell, within the limits.
-fn script_of(alloc: Global, bytes: &[u8]) -> Result<Script, Stop>
+fn script_of(alloc: Global, bytes: &[u8]) -> Result<Script, Stop<Finding>>
     requires { length bytes.now ≤ input_limit }
     ensures script { IfOk result (λ script. Spells bytes.now script × (limit_of script ≡ None) × (length script.calls < 2 ^ 32)) }
     ensures stop { IfErr result (λ stop. StopsBy (IsScriptFault bytes.now) stop) }
@@ -133,7 +123,7 @@ fn script_of(alloc: Global, bytes: &[u8]) -> Result<Script, Stop>
 }
 
 /// The script that bytes spell.
-fn spelt_script(alloc: Global, bytes: &[u8]) -> Result<Script, Stop>
+fn spelt_script(alloc: Global, bytes: &[u8]) -> Result<Script, Stop<Finding>>
     requires { length bytes.now ≤ input_limit }
     ensures script { IfOk result (λ script. Spells bytes.now script × (length script.calls < 2 ^ 32)) }
     ensures stop { IfErr result (λ stop. StopsBy (IsScriptFault bytes.now) stop) }
@@ -148,7 +138,7 @@ fn spelt_script(alloc: Global, bytes: &[u8]) -> Result<Script, Stop>
 }
 
 /// The journal that a trace spells, behind so many lines.
-fn journal_of(alloc: Global, trace: &[u8], ahead: u64) -> Result<Journal, Stop>
+fn journal_of(alloc: Global, trace: &[u8], ahead: u64) -> Result<Journal, Stop<Finding>>
     requires few { length trace.now ≤ input_limit }
     requires ahead { ahead ≤ input_limit + 1 }
     ensures journal { IfOk result (λ journal. IsJournalOf trace.now journal) }
@@ -167,7 +157,12 @@ fn journal_of(alloc: Global, trace: &[u8], ahead: u64) -> Result<Journal, Stop>
 }
 
 /// How many entries a journal has, where it is a run, what the script's calls ask for, and reported so.
-fn judge_run(alloc: Global, script: &Script, journal: &Journal, told: &[u8]) -> Result<u64, Stop>
+fn judge_run(
+    alloc: Global,
+    script: &Script,
+    journal: &Journal,
+    told: &[u8],
+) -> Result<u64, Stop<Finding>>
     requires script { IsScript script.now }
     requires calls { length script.now.calls < 2 ^ 32 }
     requires rises { Rises journal.now }
@@ -182,7 +177,12 @@ fn judge_run(alloc: Global, script: &Script, journal: &Journal, told: &[u8]) -> 
 }
 
 /// The same of a run.
-fn judge_asked(alloc: Global, script: &Script, journal: &Journal, told: &[u8]) -> Result<u64, Stop>
+fn judge_asked(
+    alloc: Global,
+    script: &Script,
+    journal: &Journal,
+    told: &[u8],
+) -> Result<u64, Stop<Finding>>
     requires script { IsScript script.now }
     requires calls { length script.now.calls < 2 ^ 32 }
     requires few { length journal.now < 2 ^ 32 }
@@ -198,7 +198,12 @@ fn judge_asked(alloc: Global, script: &Script, journal: &Journal, told: &[u8]) -
 }
 
 /// The same of a run that is what the calls ask for.
-fn judge_report(alloc: Global, script: &Script, journal: &Journal, told: &[u8]) -> Result<u64, Stop>
+fn judge_report(
+    alloc: Global,
+    script: &Script,
+    journal: &Journal,
+    told: &[u8],
+) -> Result<u64, Stop<Finding>>
     requires script { IsScript script.now }
     requires run { Run (setting_of script.now) journal.now }
     requires asked { IsAsked script.now journal.now }

@@ -4,7 +4,7 @@ ghost use Rattle.std.specs.Prelude.{◌≡◌, ◌==◌, ℕ, List, ◌&&◌, �
 ghost use Rattle.array_journal.specs.Acts.{has_act, is_act};
 ghost use Rattle.array_journal.specs.declared.entry.Entry.{Entry};
 ghost use Rattle.array_journal.specs.Entries.{some_at};
-ghost use Rattle.journal_index.specs.Deeds.{deeds_of};
+ghost use Rattle.journal_index.specs.ActsDone.{acts_done};
 ghost use Rattle.trace_check.specs.Judging.{opened_task};
 ghost use Rattle.trace_check.specs.JudgingActs.{may_act_here, has_rows, may_act, same_bool, may_fetch, may_put, may_diff, may_hold, of_opened};
 ghost use Rattle.trace_check.specs.JudgingTests.{act_of};
@@ -15,10 +15,10 @@ use crate::judging::spelt::{is_spelt, task_bytes};
 use crate::judging::sums::sum_over;
 use array_journal::{At, Setting, Task};
 use blocks_core::Memory;
-use journal_index::{Deeds, Past};
+use journal_index::{ActsDone, Past};
 use sbc_cdbs::Cdb;
 use std::alloc::Global;
-use stripe_check::Medium;
+use stripe_check::ReplayedMedium;
 
 /// What an act says of itself: its command and the entry that opened it, how it was sent, where, and
 /// the bytes.
@@ -31,17 +31,16 @@ pub struct Said<'a> {
     pub bytes: &'a [u8],
 }
 
-/// Whether a command did an act.
-fn has_done(deeds: Deeds, act: Act) -> bool
-    ensures { (lock command : ℕ) (past : List Entry) → deeds ≡ deeds_of lock command past → result ≡ some_at lock (is_act (act_of act) command) past }
+fn has_done(acts: ActsDone, act: Act) -> bool
+    ensures { (lock command : ℕ) (past : List Entry) → acts ≡ acts_done lock command past → result ≡ some_at lock (is_act (act_of act) command) past }
 {
     match act {
-        Act::Fetching => deeds.fetched,
-        Act::Putting => deeds.put,
-        Act::Diffing => deeds.diffed,
-        Act::Taking => deeds.taken,
-        Act::Folding => deeds.folded,
-        Act::Holding => deeds.held,
+        Act::Fetching => acts.fetched,
+        Act::Putting => acts.put,
+        Act::Diffing => acts.diffed,
+        Act::Taking => acts.taken,
+        Act::Folding => acts.folded,
+        Act::Holding => acts.held,
     }
 }
 
@@ -58,16 +57,15 @@ fn may_act_here(
     requires { target < 255 }
     ensures { result ≡ may_act_here setting.now (reverse past.now) target command opened task.now (act_of act) }
 {
-    let deeds = past.deeds(target as u8 + 1, command);
+    let acts = past.acts_done(target as u8 + 1, command);
     let meant = has_act(setting, act, task, target);
     let gone = past.is_gone(target);
-    let shut = deeds.shut;
-    let again = has_done(deeds, act);
+    let shut = acts.shut;
+    let again = has_done(acts, act);
     let other_disk = past.is_swapped_since(target, opened);
     meant && !gone && !shut && !again && !other_disk
 }
 
-/// Whether row and length are the task's.
 fn has_rows(setting: &Setting, row: u32, len: usize, task: &Task) -> bool
     ensures { result ≡ has_rows setting.now row len task.now }
 {
@@ -108,7 +106,7 @@ pub fn may_fetch(
     stamp: u64,
     target: usize,
     said: &Said,
-    medium: &Medium,
+    medium: &ReplayedMedium,
 ) -> bool
     requires { target < 255 }
     ensures { result ≡ of_opened (reverse past.now) stamp said.now.command said.now.opened
@@ -145,7 +143,7 @@ pub fn may_put(
     Ok(act && fetched && said.bytes == sum.as_slice())
 }
 
-/// Whether two truth values are one.
+/// `==` of truth values, with a clause in the words of the definition's test.
 pub fn is_same(a: bool, b: bool) -> bool
     ensures { result ≡ same_bool a b }
 {
@@ -190,7 +188,7 @@ pub fn may_hold(
     kept: bool,
     names: &[At],
     back: bool,
-    medium: &Medium,
+    medium: &ReplayedMedium,
 ) -> Result<bool, Memory>
     requires { target < 255 }
     ensures { IfOk result (λ r. r ≡ of_opened (reverse past.now) stamp said.now.command said.now.opened

@@ -1,10 +1,11 @@
 //! Which command acts at which target.
 
 ghost use Rattle.std.specs.Prelude.{◌≡◌};
-ghost use Rattle.array_journal.specs.Acts.{Fetches, Puts, Diffs, Takes, Folds, Holds, acts_at, has_act, is_target, gatherer};
+ghost use Rattle.array_journal.specs.Acts.{Fetches, Puts, Diffs, Takes, Folds, Holds, acts_at, has_act, is_target};
 ghost use Rattle.stripe_layout.specs.declared.mode.Mode.{Mode};
 ghost use Rattle.trace_check.specs.JudgingTests.{act_of};
 
+use array_book::gatherer;
 use array_journal::{Kind, Setting, Task};
 use stripe_layout::Mode;
 
@@ -17,13 +18,6 @@ pub enum Act {
     Taking,
     Folding,
     Holding,
-}
-
-/// The target that gathers for a degraded read, where a target does.
-pub fn gatherer(task: &Task) -> usize
-    ensures { result ≡ gatherer task.now }
-{
-    if task.target == 0 { 1 } else { 0 }
 }
 
 fn fetches_at(mode: Mode, task: &Task, target: usize) -> bool

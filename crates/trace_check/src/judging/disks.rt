@@ -2,26 +2,26 @@
 
 ghost use Rattle.std.specs.Prelude.{◌≡◌, ◌*◌, ◌++◌, ◌∷◌, [], List, OnOk, IfOk, length};
 ghost use Rattle.blocks_core.specs.Xor.{xor};
-ghost use Rattle.array_journal.specs.Lists.{slice};
+ghost use Rattle.blocks_core.specs.Lists.{slice};
 ghost use Rattle.stripe_layout.specs.Layout.{IsArray};
 ghost use Rattle.array_journal.specs.declared.entry.Entry.{Entry};
-ghost use Rattle.array_journal.specs.Media.{held_after, take_rows};
+ghost use Rattle.xor_buffers.specs.Held.{take_rows};
+ghost use Rattle.array_journal.specs.Media.{held_after};
 ghost use Rattle.stripe_check.specs.Folds.{AreMedia};
 ghost use Rattle.trace_check.specs.JudgingHeld.{AreBuffers};
 
-use crate::judging::buffers::Buffer;
-use crate::judging::folding::delta_of;
-use crate::judging::held::Rows;
+use crate::judging::deltas::delta_of;
 use array_journal::{Entry, Event, Setting, What};
 use blocks_core::{Bytes, Memory};
 use std::alloc::Global;
-use stripe_check::Medium;
+use stripe_check::ReplayedMedium;
+use xor_buffers::{HeldList, Rows};
 
 /// Takes a command's rows out of a buffer.
 fn take_rows(
     alloc: Global,
     setting: &Setting,
-    buffer: &mut Buffer,
+    buffer: &mut HeldList,
     row: u32,
     len: usize,
 ) -> Result<(), Memory>
@@ -40,8 +40,8 @@ fn take_rows(
 fn hold_delta(
     alloc: Global,
     setting: &Setting,
-    medium: &Medium,
-    buffer: &mut Buffer,
+    medium: &ReplayedMedium,
+    buffer: &mut HeldList,
     owner: u32,
     row: u32,
     bytes: &Bytes,
@@ -56,8 +56,8 @@ fn hold_delta(
 fn hold_event(
     alloc: Global,
     setting: &Setting,
-    medium: &Medium,
-    buffer: &mut Buffer,
+    medium: &ReplayedMedium,
+    buffer: &mut HeldList,
     event: &Event,
 ) -> Result<(), Memory>
     requires { IsArray setting.now.geometry }
@@ -83,14 +83,17 @@ fn hold_event(
             buffer.hold(*command, *row, held)
         }
         Event::Take { row, bytes, .. } => take_rows(alloc, setting, buffer, *row, bytes.len()),
-        Event::Shut { command, .. } => buffer.shut(alloc, *command),
+        Event::Shut { command, .. } => {
+            buffer.wipe_owner(*command);
+            Ok(())
+        }
         Event::Gone { .. }
         | Event::Wiped {
             what: What::Buffers,
             ..
         }
         | Event::Fresh { .. } => {
-            buffer.clear();
+            buffer.wipe();
             Ok(())
         }
         _ => Ok(()),
@@ -101,14 +104,15 @@ fn hold_event(
 pub fn hold_entry(
     alloc: Global,
     setting: &Setting,
-    media: &[Medium],
-    buffers: &mut Vec<Buffer>,
+    media: &[ReplayedMedium],
+    buffers: &mut Vec<HeldList>,
     entry: &Entry,
 ) -> Result<(), Memory>
     requires { IsArray setting.now.geometry }
     ensures { OnOk result ((past : List Entry) → AreMedia setting.now past media.now → AreBuffers setting.now past buffers.old.items → AreBuffers setting.now (entry.now ∷ past) buffers.new.items) }
 {
     let lock = usize::from(entry.lock);
+    // A journal that is no run may name any lock.
     if lock == 0 || lock > buffers.len() || lock > media.len() {
         return Ok(());
     }
@@ -122,12 +126,12 @@ pub fn hold_entry(
 }
 
 /// The buffers before any entry.
-pub fn first_buffers(alloc: Global, setting: &Setting) -> Result<Vec<Buffer>, Memory>
+pub fn first_buffers(alloc: Global, setting: &Setting) -> Result<Vec<HeldList>, Memory>
     ensures { IfOk result (λ b. AreBuffers setting.now [] b.items) }
 {
     let mut buffers = Vec::new(alloc);
     for _ in 0..setting.geometry.targets {
-        buffers.push(Buffer::new(alloc))?;
+        buffers.push(HeldList::new(alloc))?;
     }
     Ok(buffers)
 }

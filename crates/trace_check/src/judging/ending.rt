@@ -53,7 +53,6 @@ fn names_acts(
     rise && own && five
 }
 
-/// The bytes of the first take among the names.
 fn first_taken<'a>(past: &Past<'a>, names: &[At]) -> &'a [u8]
     ensures { result.now ≡ first_taken (reverse past.now) names.now }
 {
@@ -266,7 +265,7 @@ pub fn may_close(
     }
 }
 
-/// Whether two names are one.
+/// Whether stamp and lock are the same: `==` of names, with a clause in the words of the definition's test.
 pub fn is_same_name(a: At, b: At) -> bool
     ensures { result ≡ same_at a b }
 {

@@ -1,16 +1,16 @@
 //! Whether an entry may follow a journal, over what this leaves on the media and in the buffers.
 
 ghost use Rattle.std.specs.Prelude.{◌≡◌, ◌<◌, ◌↔◌, suc, true, IsTrue, IfOk, reverse};
-ghost use Rattle.stripe_layout.specs.Layout.{IsArray};
 ghost use Rattle.array_journal.specs.May.{May};
 ghost use Rattle.array_journal.specs.Run.{IsSetting};
 ghost use Rattle.stripe_check.specs.Folds.{AreMedia};
 ghost use Rattle.trace_check.specs.JudgingAll.{is_act_event, may_book, may_target, may_at, may_follow};
 ghost use Rattle.trace_check.specs.JudgingEnds.{may_close, may_spoil, of_open};
 ghost use Rattle.trace_check.specs.JudgingHeld.{AreBuffers};
+ghost use Rattle.trace_check.specs.SentDeltas.{KeepsDeltas};
 
 use crate::judging::acting::{Said, may_diff, may_fetch, may_hold, may_put};
-use crate::judging::buffers::Buffer;
+use crate::judging::deltas::SentDeltas;
 use crate::judging::ending::{may_close, may_spoil};
 use crate::judging::folding::may_fold;
 use crate::judging::losing::{may_freshen, may_shut};
@@ -22,7 +22,8 @@ use blocks_core::{Bytes, Memory};
 use journal_index::Past;
 use sbc_cdbs::Cdb;
 use std::alloc::Global;
-use stripe_check::Medium;
+use stripe_check::ReplayedMedium;
+use xor_buffers::HeldList;
 
 /// Whether a command is open and may close.
 fn may_close_open(
@@ -134,12 +135,13 @@ fn may_act(
     past: &Past,
     stamp: u64,
     target: usize,
-    medium: &Medium,
-    buffer: &Buffer,
+    medium: &ReplayedMedium,
+    buffer: &HeldList,
+    deltas: &SentDeltas,
     event: &Event,
 ) -> Result<bool, Memory>
     requires bound { target < 255 }
-    requires array { IsArray setting.now.geometry }
+    requires deltas { KeepsDeltas setting.now (reverse past.now) deltas.now }
     ensures { IfOk result (λ r. is_act_event event.now ≡ true → r ≡ may_target setting.now (reverse past.now) stamp target medium.now buffer.now event.now) }
 {
     match event {
@@ -196,7 +198,15 @@ fn may_act(
             names,
         } => {
             let said = said(*command, *opened, cdb, *row, bytes);
-            may_fold(alloc, setting, past, stamp, target, &said, names.as_slice())
+            Ok(may_fold(
+                setting,
+                past,
+                deltas,
+                stamp,
+                target,
+                &said,
+                names.as_slice(),
+            ))
         }
         Event::Hold {
             command,
@@ -233,12 +243,13 @@ fn may_target(
     past: &Past,
     stamp: u64,
     target: usize,
-    medium: &Medium,
-    buffer: &Buffer,
+    medium: &ReplayedMedium,
+    buffer: &HeldList,
+    deltas: &SentDeltas,
     event: &Event,
 ) -> Result<bool, Memory>
     requires bound { target < 255 }
-    requires array { IsArray setting.now.geometry }
+    requires deltas { KeepsDeltas setting.now (reverse past.now) deltas.now }
     ensures { IfOk result (λ r. r ≡ may_target setting.now (reverse past.now) stamp target medium.now buffer.now event.now) }
 {
     match event {
@@ -247,7 +258,9 @@ fn may_target(
         | Event::Diff { .. }
         | Event::Take { .. }
         | Event::Fold { .. }
-        | Event::Hold { .. } => may_act(alloc, setting, past, stamp, target, medium, buffer, event),
+        | Event::Hold { .. } => may_act(
+            alloc, setting, past, stamp, target, medium, buffer, deltas, event,
+        ),
         Event::Shut {
             command,
             opened,
@@ -270,31 +283,36 @@ pub fn may_follow(
     alloc: Global,
     setting: &Setting,
     past: &Past,
-    media: &[Medium],
-    buffers: &[Buffer],
+    media: &[ReplayedMedium],
+    buffers: &[HeldList],
+    deltas: &SentDeltas,
     entry: &Entry,
 ) -> Result<bool, Memory>
     requires in_range { IsSetting setting.now }
     requires media { AreMedia setting.now (reverse past.now) media.now }
     requires buffers { AreBuffers setting.now (reverse past.now) buffers.now }
+    requires deltas { KeepsDeltas setting.now (reverse past.now) deltas.now }
     ensures { IfOk result (λ r. IsTrue r ↔ May setting.now (reverse past.now) entry.now) }
 {
-    let follows = judge(alloc, setting, past, media, buffers, entry)?;
+    let follows = judge(alloc, setting, past, media, buffers, deltas, entry)?;
     Ok(follows)
 }
 
-/// The same, as a test.
+/// The answer as the definition's test gives it: that the test says `May` is one step more, taken in
+/// `may_follow`.
 fn judge(
     alloc: Global,
     setting: &Setting,
     past: &Past,
-    media: &[Medium],
-    buffers: &[Buffer],
+    media: &[ReplayedMedium],
+    buffers: &[HeldList],
+    deltas: &SentDeltas,
     entry: &Entry,
 ) -> Result<bool, Memory>
     requires in_range { IsSetting setting.now }
     requires media { AreMedia setting.now (reverse past.now) media.now }
     requires buffers { AreBuffers setting.now (reverse past.now) buffers.now }
+    requires deltas { KeepsDeltas setting.now (reverse past.now) deltas.now }
     ensures { IfOk result (λ r. r ≡ may_follow setting.now (reverse past.now) entry.now) }
 {
     if !past.are_stamps_below(entry.lock, entry.stamp) {
@@ -309,6 +327,7 @@ fn judge(
         past,
         media,
         buffers,
+        deltas,
         usize::from(entry.lock) - 1,
         entry,
     )
@@ -319,8 +338,9 @@ fn judge_target(
     alloc: Global,
     setting: &Setting,
     past: &Past,
-    media: &[Medium],
-    buffers: &[Buffer],
+    media: &[ReplayedMedium],
+    buffers: &[HeldList],
+    deltas: &SentDeltas,
     target: usize,
     entry: &Entry,
 ) -> Result<bool, Memory>
@@ -328,6 +348,7 @@ fn judge_target(
     requires bound { target < 255 }
     requires media { AreMedia setting.now (reverse past.now) media.now }
     requires buffers { AreBuffers setting.now (reverse past.now) buffers.now }
+    requires deltas { KeepsDeltas setting.now (reverse past.now) deltas.now }
     ensures { IfOk result (λ r. r ≡ may_at setting.now (reverse past.now) entry.now.stamp (suc target) entry.now.event) }
 {
     if target >= media.len() || target >= buffers.len() {
@@ -343,6 +364,7 @@ fn judge_target(
         target,
         medium,
         buffer,
+        deltas,
         &entry.event,
     )?;
     Ok(follows)

@@ -4,7 +4,7 @@ ghost use Rattle.std.specs.Prelude.{◌≡◌, ◌<◌, ◌||◌, ℕ, List, rev
 ghost use Rattle.array_journal.specs.Acts.{changes_medium};
 ghost use Rattle.array_journal.specs.declared.entry.Entry.{Entry};
 ghost use Rattle.array_journal.specs.Entries.{entry_at, some_at};
-ghost use Rattle.journal_index.specs.Deeds.{deeds_of};
+ghost use Rattle.journal_index.specs.ActsDone.{acts_done};
 ghost use Rattle.trace_check.specs.JudgingActs.{same_place, may_shut, of_opened, is_swap_for, may_freshen};
 
 use crate::judging::acting::is_same;
@@ -12,9 +12,8 @@ use crate::judging::acts::is_target;
 use crate::judging::ending::is_same_name;
 use crate::judging::naming::opened_task;
 use array_journal::{At, Event, Kind, Setting};
-use journal_index::{Deeds, Past};
+use journal_index::{ActsDone, Past};
 
-/// Whether two names are one, where there are any.
 fn is_same_place(a: Option<At>, b: Option<At>) -> bool
     ensures { result ≡ same_place a b }
 {
@@ -25,11 +24,10 @@ fn is_same_place(a: Option<At>, b: Option<At>) -> bool
     }
 }
 
-/// Whether a command changed a medium.
-fn has_changed(deeds: Deeds) -> bool
-    ensures { (lock command : ℕ) (past : List Entry) → deeds ≡ deeds_of lock command past → result ≡ some_at lock (changes_medium command) past }
+fn has_changed(acts: ActsDone) -> bool
+    ensures { (lock command : ℕ) (past : List Entry) → acts ≡ acts_done lock command past → result ≡ some_at lock (changes_medium command) past }
 {
-    is_any(deeds.put, deeds.diffed, deeds.folded)
+    is_any(acts.put, acts.diffed, acts.folded)
 }
 
 fn is_any(a: bool, b: bool, c: bool) -> bool
@@ -55,12 +53,12 @@ pub fn may_shut(
     let Some(task) = opened_task(past, stamp, command, opened) else {
         return false;
     };
-    let deeds = past.deeds(target as u8 + 1, command);
+    let acts = past.acts_done(target as u8 + 1, command);
     let meant = is_target(setting, task, target);
-    let answered = matches!(task.kind, Kind::Read) && deeds.fetched;
-    let says_acted = is_same(acted, has_changed(deeds));
+    let answered = matches!(task.kind, Kind::Read) && acts.fetched;
+    let says_acted = is_same(acted, has_changed(acts));
     let says_lost = is_same_place(lost, past.loss_of(target));
-    meant && !deeds.shut && !answered && says_acted && says_lost
+    meant && !acts.shut && !answered && says_acted && says_lost
 }
 
 /// Whether the entry of a name is a swap of a slot for a call.

@@ -148,7 +148,7 @@ fn comes_after(last: Option<At>, name: At) -> bool
     }
 }
 
-/// Whether names rise strictly.
+/// Whether each name comes before the next one in the order of a journal.
 pub fn do_names_rise(names: &[At]) -> bool
     ensures { result ≡ rise_after None names.now }
 {
@@ -218,7 +218,7 @@ fn is_named_where_due(
     !has_act(setting, act, task, target) || is_named(past, command, act, target, names)
 }
 
-/// Whether an event is an act of a command that its task has at a target.
+/// Whether an event is this act of a command, and its task has it at a target.
 fn is_act_at(
     setting: &Setting,
     act: Act,
@@ -232,7 +232,7 @@ fn is_act_at(
     has_act(setting, act, task, target) && answer(Question::IsAct { act, command }, event)
 }
 
-/// Whether an event is an act of a command that its task has at a target.
+/// Whether an event is one of the six acts, of a command whose task has it at a target.
 fn is_own_at(setting: &Setting, command: u32, task: &Task, target: usize, event: &Event) -> bool
     ensures { result ≡ is_own_act setting.now command task.now (suc target) event.now }
 {

@@ -4,8 +4,9 @@ ghost use Rattle.std.specs.Prelude.{◌≡◌, ◌<◌, reverse, slice_get};
 ghost use Rattle.array_journal.specs.Acts.{is_target};
 ghost use Rattle.array_journal.specs.Entries.{some_at};
 ghost use Rattle.array_journal.specs.May.{opens_at};
-ghost use Rattle.journal_index.specs.Standings.{standing_tasks};
-ghost use Rattle.trace_check.specs.JudgingEnds.{may_note, may_swap, passes_task};
+ghost use Rattle.array_book.specs.OpenCommands.{open_tasks};
+ghost use Rattle.array_book.specs.OpenTasks.{passes_task};
+ghost use Rattle.trace_check.specs.JudgingEnds.{may_note, may_swap};
 
 use crate::judging::acts::is_target;
 use crate::judging::naming::names;
@@ -26,9 +27,9 @@ pub fn may_note(past: &Past, stamp: u64, slot: usize, lost: At) -> bool
 
 /// Whether the open command at a place has a slot among its targets.
 fn is_used_by(setting: &Setting, past: &Past, slot: usize, place: usize) -> bool
-    ensures { result ≡ passes_task (λ task. is_target setting.now task slot) (slice_get (standing_tasks (reverse past.now)) place) }
+    ensures { result ≡ passes_task (λ task. is_target setting.now task slot) (slice_get (open_tasks (reverse past.now)) place) }
 {
-    match past.standing(place) {
+    match past.open_task(place) {
         Some(task) => is_target(setting, task, slot),
         None => false,
     }
@@ -39,7 +40,7 @@ fn is_in_use(setting: &Setting, past: &Past, slot: usize) -> bool
     ensures { result ≡ some_at 0 (opens_at setting.now (reverse past.now) slot) (reverse past.now) }
 {
     let mut found = false;
-    for place in 0..past.standing_len() {
+    for place in 0..past.open_len() {
         let here = is_used_by(setting, past, slot, place);
         found = here || found;
     }

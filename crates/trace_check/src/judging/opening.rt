@@ -4,12 +4,13 @@ ghost use Rattle.std.specs.Prelude.{◌≡◌, ◌+◌, ◌*◌, ◌&&◌, nat_l
 ghost use Rattle.array_journal.specs.Run.{IsSetting};
 ghost use Rattle.trace_check.specs.JudgingEnds.{same_kind, is_unit, is_task_of_kind, is_task, is_decided, may_open};
 
-use crate::judging::decision::{Decision, decide, has_room, is_any_in_way};
+use crate::judging::decision::decide;
 use crate::judging::spelt::task_bytes;
+use array_book::Decision;
 use array_journal::{Kind, Setting, Task};
 use journal_index::Past;
 
-/// Whether two kinds are one.
+/// `==` of kinds, with a clause in the words of the definition's test.
 pub fn is_same_kind(a: Kind, b: Kind) -> bool
     ensures { result ≡ same_kind a b }
 {
@@ -88,8 +89,8 @@ pub fn may_open(setting: &Setting, past: &Past, command: u32, task: &Task) -> bo
     if command as usize != past.open_count() || !is_task(setting, task) {
         return false;
     }
-    if !is_decided(setting, past, task) || is_any_in_way(past, task) {
+    if !is_decided(setting, past, task) || past.first_in_way(task).is_some() {
         return false;
     }
-    has_room(setting, past, task)
+    past.has_room(setting, task)
 }

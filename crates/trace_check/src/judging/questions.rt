@@ -54,7 +54,6 @@ fn is_loss_in(event: &Event, wanted: usize) -> bool
     }
 }
 
-/// Whether a command is among owners.
 fn has_owner(owners: &Owners, wanted: u32) -> bool
     ensures { result ≡ list_any (λ x. x == wanted) owners.now }
 {

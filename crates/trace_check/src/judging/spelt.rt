@@ -159,7 +159,8 @@ fn does_spell(cdb: &Cdb, setting: &Setting, task: &Task, sources: usize, act: Ac
     }
 }
 
-/// The same, as a test.
+/// Whether a CDB spells the command of an act of a task, with a clause in the words of the definition's
+/// test.
 pub fn is_spelt(cdb: &Cdb, setting: &Setting, task: &Task, sources: usize, act: Act) -> bool
     ensures { result ≡ is_spelt cdb.now (cdb_of setting.now task.now sources (act_of act)) }
 {

@@ -6,24 +6,15 @@ ghost use Rattle.array_journal.specs.May.{bytes_named};
 
 use crate::judging::naming::bytes_named;
 use array_journal::At;
-use blocks_core::{Bytes, Memory};
+use blocks_core::{Bytes, Memory, XorSum};
 use journal_index::Past;
 use std::alloc::Global;
-use stripe_check::Medium;
-
-/// The exclusive-or by place. Where one is longer, its rest stands as it is.
-pub fn fold_in(sum: &mut Medium, bytes: &[u8]) -> Result<(), Memory>
-    ensures { OnOk result (sum.new ≡ xor sum.old bytes.now) }
-{
-    sum.fold(0, bytes)?;
-    Ok(())
-}
 
 /// Adds what the entry of a name read or took.
-fn add_named(sum: &mut Medium, past: &Past, name: At) -> Result<(), Memory>
+fn add_named(sum: &mut XorSum, past: &Past, name: At) -> Result<(), Memory>
     ensures { OnOk result (sum.new ≡ xor sum.old (bytes_named (reverse past.now) name)) }
 {
-    fold_in(sum, bytes_named(past, name))
+    sum.add(bytes_named(past, name))
 }
 
 /// The exclusive-or of bytes, what the named entries read or took, and so many zeros.
@@ -36,12 +27,12 @@ pub fn sum_over(
 ) -> Result<Bytes, Memory>
     ensures { IfOk result (λ sum. sum ≡ xor first.now (xor_all len (map (bytes_named (reverse past.now)) names.now))) }
 {
-    let mut sum = Medium::zeros(alloc, 0)?;
-    fold_in(&mut sum, first)?;
+    let mut sum = XorSum::new(alloc, 0)?;
+    sum.add(first)?;
     for name in names {
         add_named(&mut sum, past, *name)?;
     }
-    let zeros = Medium::zeros(alloc, len)?;
-    fold_in(&mut sum, zeros.part(0, len))?;
+    let zeros = XorSum::new(alloc, len)?;
+    sum.add(zeros.as_slice())?;
     Ok(sum.into_bytes())
 }

@@ -2,21 +2,20 @@
 
 ghost use Rattle.std.specs.Prelude.{◌≡◌, ◌<◌, IfOk, reverse};
 ghost use Rattle.std.specs.Str.{bytes_eq};
-ghost use Rattle.array_journal.specs.Media.{rows_held, owners_of};
+ghost use Rattle.xor_buffers.specs.Held.{rows_held, owners_of};
 ghost use Rattle.trace_check.specs.JudgingActs.{same_found, may_take, may_lose, may_wipe, of_opened};
 
 use crate::judging::acting::{Said, may_act};
 use crate::judging::acts::Act;
-use crate::judging::buffers::Buffer;
-use crate::judging::held::Rows;
 use crate::judging::naming::opened_task;
 use array_journal::{Setting, What};
 use blocks_core::{Memory, Owners};
 use journal_index::Past;
 use std::alloc::Global;
+use xor_buffers::{HeldList, Rows};
 
 /// Whether a command holds rows in one piece, and they are these bytes.
-fn is_held(buffer: &Buffer, command: u32, rows: Rows, bytes: &[u8]) -> bool
+fn is_held(buffer: &HeldList, command: u32, rows: Rows, bytes: &[u8]) -> bool
     ensures { result ≡ same_found bytes.now (rows_held rows.block command rows.row rows.len buffer.now) }
 {
     match buffer.rows_of(command, rows) {
@@ -32,7 +31,7 @@ pub fn may_take(
     stamp: u64,
     target: usize,
     said: &Said,
-    buffer: &Buffer,
+    buffer: &HeldList,
 ) -> bool
     requires { target < 255 }
     ensures { result ≡ of_opened (reverse past.now) stamp said.now.command said.now.opened
@@ -52,7 +51,7 @@ pub fn may_take(
 }
 
 /// Whether these are the owners of what a buffer holds.
-fn are_owners(alloc: Global, buffer: &Buffer, commands: &Owners) -> Result<bool, Memory>
+fn are_owners(alloc: Global, buffer: &HeldList, commands: &Owners) -> Result<bool, Memory>
     ensures { IfOk result (λ r. r ≡ bytes_eq commands.now (owners_of buffer.now)) }
 {
     let owners = buffer.owners(alloc)?;
@@ -66,7 +65,7 @@ pub fn may_lose(
     target: usize,
     life: u32,
     commands: &Owners,
-    buffer: &Buffer,
+    buffer: &HeldList,
 ) -> Result<bool, Memory>
     requires { target < 256 }
     ensures { IfOk result (λ r. r ≡ may_lose (reverse past.now) target life commands.now buffer.now) }
@@ -81,7 +80,7 @@ pub fn may_wipe(
     alloc: Global,
     what: What,
     commands: &Owners,
-    buffer: &Buffer,
+    buffer: &HeldList,
 ) -> Result<bool, Memory>
     ensures { IfOk result (λ r. r ≡ may_wipe what commands.now buffer.now) }
 {

@@ -4,7 +4,7 @@ use Rattle.array_journal.specs.declared.entry.Entry.{Entry}
 use Rattle.array_journal.specs.Run.{NoneOpen}
 use Rattle.stripe_check.specs.Asked.{IsAskedOf, AreServed}
 use Rattle.trace_check.specs.Asking.{AreMarksOf}
-use Rattle.trace_check.specs.declared.asking.marks.Mark.{Mark}
+use Rattle.trace_check.specs.declared.asking.call_steps.Mark.{Mark}
 use Rattle.trace_check.proofs.AskingWhole.{asked-decided}
 use Rattle.trace_check.proofs.AskingMarked.{marked-turns, as-many-marks}
 use Rattle.trace_check.proofs.asking.asked.Goals as goal
@@ -17,13 +17,19 @@ are_served-requires-clause-few c =
     ∙ ap (λ (l : List Entry). length l) c.as_slice-entries.ensures in
     subst (λ (x : ℕ). x < 4294967296) (sym n) c.requires.few
 
+pub are_served-requires-clause-marked : goal.are_served-requires-clause-marked
+are_served-requires-clause-marked c =
+    let entries = c.as_slice-entries.result.now in
+    let marked = subst (λ (l : List Mark). AreMarksOf (reverse l) (reverse entries)) (sym c.as_slice-marks.ensures.value) c.in_ok-survey.ensures.marks in
+    subst (λ (l : List Entry). AreMarksOf (reverse c.as_slice-marks.result.now) (reverse l)) (sym (c.in_ok-noted.ensures ∙ c.new-past.ensures)) marked
+
 pub returns : goal.returns
 returns c =
     let script = c.args.script.now in
     let entries = c.as_slice-entries.result.now in
     let survey = c.in_ok-survey.survey in
     let marked = subst (λ (l : List Mark). AreMarksOf (reverse l) (reverse entries)) (sym c.as_slice-marks.ensures.value) c.in_ok-survey.ensures.marks in
-    let served = subst (λ (l : List Entry). IsTrue c.in_ok-served.served ↔ AreServed script (reverse l) 1 script.calls) c.new-past.ensures c.in_ok-served.ensures in
+    let served = subst (λ (l : List Entry). IsTrue c.in_ok-served.served ↔ AreServed script (reverse l) 1 script.calls) (c.in_ok-noted.ensures ∙ c.new-past.ensures) c.in_ok-served.ensures in
     let closed = subst (λ (l : List Entry). IsTrue c.is_none_open-closed.result ↔ NoneOpen (reverse l)) c.new-past.ensures c.is_none_open-closed.ensures in
     subst (λ (l : List Entry). IsTrue c.are_all.result ↔ IsAskedOf script (reverse l)) c.as_slice-entries.ensures
     (rw c.are_all.ensures

@@ -4,7 +4,7 @@ use Rattle.host_scripts.specs.declared.script.Call.{Call}
 use Rattle.stripe_check.specs.Asked.{IsServed}
 use Rattle.stripe_check.specs.Jobs.{job_of}
 use Rattle.stripe_check.specs.Steps as asked
-use Rattle.trace_check.specs.declared.asking.marks.Step.{Step}
+use Rattle.trace_check.specs.declared.asking.call_steps.Step.{Step}
 use Rattle.trace_check.specs.Asking.{step_of}
 use Rattle.trace_check.proofs.AskingMarks.{marked-steps}
 use Rattle.trace_check.proofs.AskingWhole.{served-step}
@@ -16,7 +16,7 @@ loop-place-preserved c =
     let place = c.loop-place.place in
     let call = c.call-item.result in
     let script = c.args.script.now in
-    let whole = reverse c.args.past.now in
+    let whole = reverse c.args.noted.now in
     let steps = ap (λ (l : List Step). map step_of l) c.of.ensures ∙ c.in_ok-all.ensures.steps (place + 1) ∙ marked-steps (place + 1) (reverse c.args.marks.now) whole c.requires.marked in
     rw c.both-served.ensures
     (served-step script whole script.calls place call c.is_served-here.result c.loop-place.served

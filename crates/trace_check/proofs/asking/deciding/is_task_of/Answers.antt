@@ -1,6 +1,6 @@
 use Rattle.std.proofs.Common.{◌≡◌, ℕ, List, subst}
 use Rattle.std.specs.Prelude.{◌↔◌, IsTrue}
-use Rattle.array_journal.specs.Lists.{slice}
+use Rattle.blocks_core.specs.Lists.{slice}
 use Rattle.trace_check.specs.AskingBegins.{aim_now}
 use Rattle.trace_check.specs.AskingJobs.{payload_bytes}
 use Rattle.trace_check.proofs.AskingWhole.{task-decided}

@@ -1,6 +1,6 @@
 use Rattle.std.proofs.Common.{reverse}
-use Rattle.trace_check.proofs.StandingOnes.{none-standing}
+use Rattle.array_book.proofs.OpenOnes.{none-open}
 use Rattle.trace_check.proofs.asking.owning.is_none_open.Goals as goal
 
 pub returns : goal.returns
-returns c = none-standing (reverse c.args.past.now) c.standing_len.result c.standing_len.ensures
+returns c = none-open (reverse c.args.past.now) c.open_len.result c.open_len.ensures

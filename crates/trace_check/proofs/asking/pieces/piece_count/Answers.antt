@@ -1,15 +1,20 @@
-use Rattle.std.proofs.Common.{◌<◌, arith}
-use Rattle.trace_check.proofs.AskingPieces.{counted-more}
+use Rattle.std.proofs.Common.{◌≡◌, ◌≤◌, ◌<◌, ℕ, ap, sym, arith, ◌∙◌}
+use Rattle.trace_check.specs.AskingPieces.{room_pieces}
+use Rattle.trace_check.proofs.AskingPieces.{counted, few-pieces}
 use Rattle.trace_check.proofs.asking.pieces.piece_count.Goals as goal
 
-pub loop-number-preserved : goal.loop-number-preserved
-loop-number-preserved c =
-    let first = c.first_count-first.ensures in
-    let i = c.loop-number.invariant in
-    let some : 0 < c.loop-number.rest = omega (arith, c.if-rest-eq0.false) in
-    record {
-      counted = rw first.value
-          (counted-more c.args.script.now.geometry c.most_blocks-most.result c.args.lba c.args.count c.loop-number.number c.loop-number.at c.loop-number.rest
-          c.loop-number-test.true some i.counted);
-      whole = omega (arith, i.whole, first.within);
-    }
+pub overflow_cast-result : goal.overflow_cast-result
+overflow_cast-result c =
+    let g = c.args.script.now.geometry in
+    let most = c.most_blocks-most in
+    let e = c.room_pieces.ensures ∙ ap (λ (r : ℕ). room_pieces g.unit most.result r c.args.count) c.room_at-room.ensures in
+    omega (arith, e, few-pieces g most.result c.args.lba c.args.count c.requires.geometry.least_unit most.ensures.some, c.ranges.count)
+
+pub returns : goal.returns
+returns c =
+    let g = c.args.script.now.geometry in
+    let most = c.most_blocks-most in
+    rw (sym most.ensures.value)
+    (c.room_pieces.ensures
+    ∙ ap (λ (r : ℕ). room_pieces g.unit most.result r c.args.count) c.room_at-room.ensures
+    ∙ counted g most.result c.args.lba c.args.count c.requires.geometry.least_unit most.ensures.some)

@@ -1,7 +1,7 @@
 use Rattle.std.proofs.Common.{arith}
 use Rattle.std.proofs.lemmas.Result.{IfOk-weaker, IfErr-weaker}
 use Rattle.trace_check.proofs.Accepted.{run-sound, found-at}
-use Rattle.trace_check.proofs.Asks.{stops-weaker}
+use Rattle.program_status.proofs.Endings.{stops-weaker}
 use Rattle.trace_check.proofs.Inputs.{parts-short}
 use Rattle.trace_check.proofs.checking.verdict.entries_in.Goals as goal
 
@@ -14,4 +14,4 @@ returns-in-Some-clause-run c =
 
 pub returns-in-Some-clause-stop : goal.returns-in-Some-clause-stop
 returns-in-Some-clause-stop c =
-    IfErr-weaker c.entries_of.result _ _ (λ stop s. stops-weaker _ _ (found-at c.args.input.now _ c.requires c.in-Some.ensures) stop s) c.entries_of.ensures.stop
+    IfErr-weaker c.entries_of.result _ _ (λ stop s. stops-weaker _ _ _ (found-at c.args.input.now _ c.requires c.in-Some.ensures) stop s) c.entries_of.ensures.stop

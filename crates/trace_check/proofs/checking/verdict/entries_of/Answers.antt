@@ -1,7 +1,7 @@
 use Rattle.std.proofs.Common.{ℕ, List, length, ap, arith}
 use Rattle.std.proofs.lemmas.Result.{IfOk-weaker, IfErr-weaker}
 use Rattle.trace_check.proofs.Accepted.{trace-long, found-for}
-use Rattle.trace_check.proofs.Asks.{stops-weaker}
+use Rattle.program_status.proofs.Endings.{stops-weaker}
 use Rattle.trace_check.proofs.checking.verdict.entries_of.Goals as goal
 
 pub judge_run-requires-clause-few : goal.judge_run-requires-clause-few
@@ -14,4 +14,4 @@ returns-clause-run c =
 
 pub returns-clause-stop : goal.returns-clause-stop
 returns-clause-stop c =
-    IfErr-weaker c.judge_run.result _ _ (λ stop s. stops-weaker _ _ (found-for _ c.in_ok-script.script c.in_ok-journal.journal (record { spelt = c.in_ok-script.ensures.script.0; within = c.in_ok-script.ensures.script.1; traced = c.in_ok-journal.ensures.journal })) stop s) c.judge_run.ensures.stop
+    IfErr-weaker c.judge_run.result _ _ (λ stop s. stops-weaker _ _ _ (found-for _ c.in_ok-script.script c.in_ok-journal.journal (record { spelt = c.in_ok-script.ensures.script.0; within = c.in_ok-script.ensures.script.1; traced = c.in_ok-journal.ensures.journal })) stop s) c.judge_run.ensures.stop

@@ -1,9 +1,10 @@
 use Rattle.std.proofs.Common.{subst, List, ℕ}
 use Rattle.std.proofs.lemmas.Result.{IfOk-weaker, IfErr-weaker}
-use Rattle.trace_check.specs.Endings.{StopsBy, IsInputTaken, IsRunOf}
+use Rattle.program_status.specs.Endings.{IsInputTaken}
+use Rattle.program_status.proofs.Endings.{after-both}
+use Rattle.trace_check.specs.Endings.{StopsBy, IsRunOf}
 use Rattle.trace_check.specs.Findings.{IsFound}
 use Rattle.trace_check.proofs.Accepted.{run-read, stops-read}
-use Rattle.trace_check.proofs.Completeness.{after-both}
 use Rattle.trace_check.proofs.checking.verdict.source_line.Goals as goal
 
 pub returns-clause-told : goal.returns-clause-told

@@ -9,6 +9,7 @@ use Rattle.journal_index.specs.Indexes.{IsIndexOf}
 use Rattle.stripe_check.specs.Folds.{AreMedia}
 use Rattle.trace_check.specs.Faults.{MayNotFollow}
 use Rattle.trace_check.specs.JudgingHeld.{AreBuffers}
+use Rattle.trace_check.specs.SentDeltas.{KeepsDeltas}
 use Rattle.trace_check.proofs.Faulty.{run-more, no-run}
 use Rattle.stripe_check.proofs.Journals.{read_more}
 use Rattle.trace_check.proofs.judging.faults.run_fault.Goals as goal
@@ -55,5 +56,7 @@ loop-place-preserved c =
       media = subst (λ (j : List Entry). AreMedia s j c.keep_entry.new.media.items) (sym more) (c.in_ok-keep_entry.ensures.media _ c.loop-place.invariant.media);
       buffers = subst (λ (j : List Entry). AreBuffers s j c.keep_entry.new.buffers.items) (sym more)
           (c.in_ok-keep_entry.ensures.buffers _ c.loop-place.invariant.media c.loop-place.invariant.buffers);
+      deltas = subst (λ (j : List Entry). KeepsDeltas s j c.keep_entry.new.deltas) (sym more)
+          (c.in_ok-keep_entry.ensures.deltas _ may c.loop-place.invariant.media c.loop-place.invariant.deltas);
       index = subst (λ (j : List Entry). IsIndexOf j c.add.new.self) (sym more) c.in_ok-add.ensures;
     }

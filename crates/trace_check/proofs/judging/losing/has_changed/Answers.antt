@@ -1,7 +1,7 @@
 use Rattle.std.proofs.Common.{◌||◌, ap, ◌∙◌}
-use Rattle.journal_index.specs.declared.deeds.Deeds.{Deeds}
-use Rattle.trace_check.proofs.JudgedDeeds.{changes-some}
+use Rattle.journal_index.specs.declared.acts_done.ActsDone.{ActsDone}
+use Rattle.trace_check.proofs.JudgedActsDone.{changes-some}
 use Rattle.trace_check.proofs.judging.losing.has_changed.Goals as goal
 
 pub returns : goal.returns
-returns c = λ lock command past is. c.is_any.ensures ∙ ap (λ (d : Deeds). d.put || d.diffed || d.folded) is ∙ changes-some lock command past
+returns c = λ lock command past is. c.is_any.ensures ∙ ap (λ (d : ActsDone). d.put || d.diffed || d.folded) is ∙ changes-some lock command past

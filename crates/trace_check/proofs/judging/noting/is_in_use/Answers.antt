@@ -1,20 +1,20 @@
 use Rattle.std.proofs.Common.{◌<◌, ◌≤◌, length, reverse, sym, arith, ◌∙◌}
 use Rattle.std.proofs.lemmas.Grind.{common_steps}
 use Rattle.array_journal.specs.Acts.{is_target}
-use Rattle.journal_index.specs.Standings.{standing_tasks}
-use Rattle.journal_index.proofs.StandingLaws.{used-standing}
-use Rattle.trace_check.proofs.StandingOnes.{any-more, any-whole}
+use Rattle.array_book.specs.OpenCommands.{open_tasks}
+use Rattle.array_book.proofs.OpenLaws.{used-open}
+use Rattle.array_book.proofs.OpenOnes.{any-more, any-whole}
 use Rattle.trace_check.proofs.judging.noting.is_in_use.Goals as goal
 
 pub loop-place-preserved : goal.loop-place-preserved
 loop-place-preserved c =
-    let tasks = standing_tasks (reverse c.args.past.now) in
-    let lt : c.loop-place.place < length tasks = rw (← c.standing_len-place-end.ensures) c.loop-place-test.true in
+    let tasks = open_tasks (reverse c.args.past.now) in
+    let lt : c.loop-place.place < length tasks = rw (← c.open_len-place-end.ensures) c.loop-place-test.true in
     rw (any-more (λ task. is_target c.args.setting.now task c.args.slot) tasks c.loop-place.place lt) (grind (arith, common_steps))
 
 pub returns : goal.returns
 returns c =
     let past = reverse c.args.past.now in
-    let tasks = standing_tasks past in
-    let le : length tasks ≤ c.loop-place.place = omega (arith, c.loop-place-test.false, c.standing_len-place-end.ensures) in
-    c.loop-place.invariant ∙ any-whole (λ task. is_target c.args.setting.now task c.args.slot) tasks c.loop-place.place le ∙ sym (used-standing c.args.setting.now past c.args.slot)
+    let tasks = open_tasks past in
+    let le : length tasks ≤ c.loop-place.place = omega (arith, c.loop-place-test.false, c.open_len-place-end.ensures) in
+    c.loop-place.invariant ∙ any-whole (λ task. is_target c.args.setting.now task c.args.slot) tasks c.loop-place.place le ∙ sym (used-open c.args.setting.now past c.args.slot)

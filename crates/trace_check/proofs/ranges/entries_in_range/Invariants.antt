@@ -1,7 +1,0 @@
-use Rattle.std.proofs.Common.{take}
-use Rattle.std.specs.List.{AllByRecursion}
-use Rattle.trace_check.specs.Readable.{IsEntry}
-use Rattle.trace_check.proofs.ranges.entries_in_range.Given as goal
-
-abbrev pub invariant-loop-entry : goal.invariant-loop-entry
-invariant-loop-entry l = AllByRecursion IsEntry (take l.entry-index l.entries)
