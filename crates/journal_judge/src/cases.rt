@@ -9,10 +9,11 @@ use array_journal::{Journal, Setting};
 use blocks_core::{Bytes, Memory};
 use host_scripts::{Script, ScriptFault, parse};
 use std::alloc::Global;
-use stripe_check::push_number;
+use text_fields::push_number;
 use trace_check::{TraceFault, read_trace, run_fault};
 
-/// Script and trace are shorter than this.
+/// The most bytes of a script, and of a trace. Lines and entries are then counted in 32 bits, as `parse`,
+/// `read_trace` and `run_fault` want.
 const LIMIT: usize = 50_331_648;
 
 /// What is said of a journal.
@@ -85,7 +86,8 @@ fn push_numbered(text: &mut Bytes, words: &[u8], number: u32) -> Result<(), Memo
     text.push_slice(b"\n")
 }
 
-/// What is said of the journal that a trace spells, in the array that a script sets up.
+/// What is said of the journal that a trace spells, in the array that a script sets up. One that is too
+/// long is answered like want of memory.
 fn judged(alloc: Global, script: &[u8], trace: &[u8]) -> Result<Verdict, Memory> {
     if script.len() > LIMIT || trace.len() > LIMIT {
         return Err(Memory);
@@ -147,6 +149,7 @@ pub fn answers(alloc: Global, input: &[u8]) -> Result<Bytes, Memory> {
     let mut text = Bytes::new(alloc);
     let mut case = Case::new(alloc);
     let mut rest = input;
+    // A line has a byte at least, so there are no more lines than bytes.
     for _ in 0..input.len() {
         if rest.is_empty() {
             break;

@@ -6,26 +6,20 @@
 mod cases;
 
 use cases::answers;
+use program_status::Status;
 use std::io::{Read, Write};
 use std::process::ExitCode;
-
-/// The statuses of a failed read, a failed write, and want of memory.
-const READ_FAULT: u8 = 3;
-
-const WRITE_FAULT: u8 = 4;
-
-const NO_MEMORY: u8 = 5;
 
 fn main(rt: HostRuntime) -> ExitCode {
     let mut input = Vec::new(rt.alloc());
     if rt.stdin().read_to_end(&mut input).is_err() {
-        return ExitCode::from(READ_FAULT);
+        return ExitCode::from(Status::ReadFault.code());
     }
     let Ok(text) = answers(rt.alloc(), input.as_slice()) else {
-        return ExitCode::from(NO_MEMORY);
+        return ExitCode::from(Status::NoMemory.code());
     };
     match rt.stdout().write_all(text.as_slice()) {
         Ok(()) => ExitCode::SUCCESS,
-        Err(_) => ExitCode::from(WRITE_FAULT),
+        Err(_) => ExitCode::from(Status::WriteFault.code()),
     }
 }

@@ -8,11 +8,13 @@ use array_journal::{Entries, Journal, merge};
 use blocks_core::{Bytes, Memory};
 use host_scripts::{Script, parse, print};
 use std::alloc::Global;
-use stripe_check::{push_hex, push_number, sum, summary, trace};
+use stripe_check::{sum, summary, trace};
 use stripe_layout::Geometry;
+use text_fields::{push_hex, push_number};
 use trace_check::read_trace;
 
-/// Script and trace are shorter than this.
+/// The most bytes of a script, and of a trace. Lines and entries are then counted in 32 bits, as `parse`
+/// and `read_trace` want.
 const LIMIT: usize = 50_331_648;
 
 /// The line between script and trace.
@@ -22,7 +24,7 @@ const BORDER: &[u8] = b"\ntrace\n";
 #[derive(Drop)]
 pub enum Answer {
     Text(Bytes),
-    /// It is no script with a trace.
+    /// It is no script with a trace, or one that is too long, or memory ran out while it was read.
     NoInput,
 }
 
@@ -60,6 +62,7 @@ fn called(alloc: Global, script: &Script, journal: &Journal) -> Result<Answer, M
 /// The journal again, from copies of its entries in a list for each lock.
 fn merged_copy(alloc: Global, journal: &Journal) -> Result<Journal, Memory> {
     let mut lists = Vec::new(alloc);
+    // A trace may name any lock: what stands at one without a list would be lost.
     for lock in 0..=u8::MAX {
         lists.push(lane(alloc, journal, lock)?)?;
     }

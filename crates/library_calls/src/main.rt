@@ -7,30 +7,21 @@
 mod calls;
 
 use calls::{Answer, answer_to};
+use program_status::{Status, Verdict};
 use std::io::{Read, Write};
 use std::process::ExitCode;
-
-/// The statuses of an input that is no script with a trace, of a failed read, of a failed write, and of want
-/// of memory.
-const NO_INPUT: u8 = 2;
-
-const READ_FAULT: u8 = 3;
-
-const WRITE_FAULT: u8 = 4;
-
-const NO_MEMORY: u8 = 5;
 
 fn main(rt: HostRuntime) -> ExitCode {
     let mut input = Vec::new(rt.alloc());
     if rt.stdin().read_to_end(&mut input).is_err() {
-        return ExitCode::from(READ_FAULT);
+        return ExitCode::from(Status::ReadFault.code());
     }
     match answer_to(rt.alloc(), input.as_slice()) {
         Ok(Answer::Text(text)) => match rt.stdout().write_all(text.as_slice()) {
             Ok(()) => ExitCode::SUCCESS,
-            Err(_) => ExitCode::from(WRITE_FAULT),
+            Err(_) => ExitCode::from(Status::WriteFault.code()),
         },
-        Ok(Answer::NoInput) => ExitCode::from(NO_INPUT),
-        Err(_) => ExitCode::from(NO_MEMORY),
+        Ok(Answer::NoInput) => ExitCode::from(Verdict::Refused.code()),
+        Err(_) => ExitCode::from(Status::NoMemory.code()),
     }
 }

@@ -3,9 +3,10 @@ use Rattle.std.specs.Prelude.{ℕ, ◌≡◌, ◌≢◌, List, [], ◌∷◌, Op
 use Rattle.std.specs.Io.KnownBytes.{Appends}
 use Rattle.array_journal.specs.declared.entry.Entry.{Entry}
 use Rattle.trace_check.specs.Endings.{AsksCheck, IsNoted}
-use Rattle.trace_check.specs.Endings.{IsDone as IsAcceptance, noted_for as check_note}
-use Rattle.xor_cli.specs.Endings.{IsOneOf, IsDone, IsRefusalNoted, IsExcessNoted}
-use Rattle.xor_cli.specs.Statuses.{noted_for}
+use Rattle.trace_check.specs.Endings.{IsDone as IsAcceptance}
+use Rattle.xor_cli.specs.Endings.{IsDone, IsRefusalNoted, IsExcessNoted}
+use Rattle.program_status.specs.Statuses.{IsOneOf}
+use Rattle.program_status.specs.Stops.{noted_for}
 use Rattle.xor_cli.specs.Words.{SpellsNone}
 use Rattle.worked_cases.specs.declared.answers.Answer.{Answer}
 use Rattle.worked_cases.specs.declared.calls.Program.{Program}
@@ -30,7 +31,7 @@ pub record CheckSays (words : List (List ℕ)) (input out new_out notes new_note
   pub usage : status ≡ 64 → AsksCheck words → ⊥
   pub no_other : IsOneOf (0 ∷ 1 ∷ 2 ∷ 3 ∷ 4 ∷ 5 ∷ 7 ∷ 64 ∷ []) status
   pub unwritten : status ≢ 0 → status ≢ 4 → new_out ≡ out
-  pub noted : IsOneOf (0 ∷ 3 ∷ 5 ∷ 64 ∷ []) status → Appends notes new_notes (check_note status)
+  pub noted : IsOneOf (0 ∷ 3 ∷ 5 ∷ 64 ∷ []) status → Appends notes new_notes (noted_for status)
 
 -- an answer of `tool` where nothing was written before it
 abbrev pub IsToolAnswer : List (List ℕ) → List ℕ → Answer → Type 0

@@ -1,48 +1,53 @@
 -- How a list of cases ends, and why.
-use Rattle.std.specs.Prelude.{ℕ, ◌≡◌, ◌⊎◌, ◌≤◌, ◌+◌, List, [], ◌∷◌, length, take, Option, IfSome}
+use Rattle.std.specs.Prelude.{ℕ, ◌+◌, List, [], take, Option, IfSome}
 use Rattle.std.specs.Io.KnownBytes.{Appends}
-use Rattle.outer_io.specs.Outside.{HasRisen, input_limit}
-use Rattle.worked_cases.specs.declared.faults.Expected.{Expected}
-use Rattle.worked_cases.specs.declared.faults.ListFault.{ListFault}
+use Rattle.outer_io.specs.Outside.{input_limit}
+use Rattle.program_status.specs.declared.status.Verdict.{Verdict}
+use Rattle.program_status.specs.declared.status.Verdict.TheVariants.{Refused}
+use Rattle.program_status.specs.declared.stops.Stop.{Stop}
+use Rattle.program_status.specs.Endings.{Counts, GainsOne, HasCause, StopsBy, StopsReading}
 use Rattle.worked_cases.specs.declared.faults.ListFault.TheVariants as faults
 use Rattle.worked_cases.specs.declared.lists.Run.{Run}
-use Rattle.worked_cases.specs.declared.top.Stop.{Stop}
-use Rattle.worked_cases.specs.declared.top.Stop.TheVariants.{NoList, ReadFault, Memory}
+use Rattle.worked_cases.specs.declared.top.NoList.{NoList}
 use Rattle.worked_cases.specs.Faults.{fault_line}
 use Rattle.worked_cases.specs.Lines.{IsFaultOf}
 use Rattle.worked_cases.specs.Runs.{AreTold}
-
--- a number is one of these
-abbrev pub IsOneOf : List ℕ → ℕ → Type 0
-IsOneOf [] n = ⊥
-IsOneOf (m ∷ ms) n = (n ≡ m) ⊎ IsOneOf ms n
 
 -- the text tells what the calls of runs answered
 abbrev pub IsAnswered : List ℕ → Type 0
 IsAnswered text = (runs : List Run) × AreTold runs [] text
 
--- the line of notes names a line of the list
-abbrev pub IsFaultLine : List ℕ → List ℕ → Type 0
-IsFaultLine list note =
-    (number : ℕ) × ((expected : Expected) × (IsFaultOf list (faults.Line number expected) × (note ≡ fault_line number expected)))
+-- a list that is none is refused with this line
+abbrev pub verdict_of : NoList → Verdict
+verdict_of finding = Refused
+
+abbrev pub no_list_line : NoList → List ℕ
+no_list_line finding = fault_line finding.number finding.expected
+
+-- the line that isn't taken is one of the list
+abbrev pub IsNoLine : List ℕ → NoList → Type 0
+IsNoLine list finding = IsFaultOf list (faults.Line finding.number finding.expected)
+
+-- the same of the input, of which no more is read than one byte past the limit
+abbrev pub IsNoLineOf : Option (List ℕ) → NoList → Type 0
+IsNoLineOf input finding = IfSome input (λ bytes. IsNoLine (take (input_limit + 1) bytes) finding)
 
 -- what there is in a list that stops it
-abbrev pub StopsList : List ℕ → Stop → Type 0
-StopsList list (NoList note) = IsFaultLine list note
-StopsList list ReadFault = ⊥
-StopsList list Memory = Unit {0}
+abbrev pub StopsList : List ℕ → Stop NoList → Type 0
+StopsList list stop = StopsBy no_list_line (IsNoLine list) stop
 
--- what there is in the input, of which no more is read than one byte past the limit, and in the source's count of faults
-abbrev pub StopsBy : Option (List ℕ) → ℕ → ℕ → Stop → Type 0
-StopsBy input before after (NoList note) = IfSome input (λ bytes. IsFaultLine (take (input_limit + 1) bytes) note)
-StopsBy input before after ReadFault = HasRisen before after
-StopsBy input before after Memory = Unit {0}
+-- what there is in the input and in the source's count of faults
+abbrev pub StopsSource : Option (List ℕ) → ℕ → ℕ → Stop NoList → Type 0
+StopsSource input before after stop = StopsReading no_list_line (IsNoLineOf input) before after stop
+
+-- the program has no words, and always reads its source
+abbrev pub HasListCause : Counts → Counts → ℕ → Type 0
+HasListCause before after status = HasCause ⊥ (Unit {0}) (Unit {0}) before after status
 
 -- out has gained what the calls of runs answered
 abbrev pub IsDone : Option (List ℕ) → Option (List ℕ) → Type 0
-IsDone before after = (text : List ℕ) × (IsAnswered text × Appends before after text)
+IsDone before after = GainsOne IsAnswered before after
 
 -- notes have gained a line that names a line of the input
 abbrev pub IsNoList : Option (List ℕ) → Option (List ℕ) → Option (List ℕ) → Type 0
-IsNoList input before after =
-    (note : List ℕ) × (IfSome input (λ bytes. IsFaultLine (take (input_limit + 1) bytes) note) × Appends before after note)
+IsNoList input before after = (finding : NoList) × (IsNoLineOf input finding × Appends before after (no_list_line finding))

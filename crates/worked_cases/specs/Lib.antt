@@ -4,5 +4,4 @@ pub mod Faults
 pub mod Lines
 pub mod Parts
 pub mod Runs
-pub mod Stops
 pub mod Told

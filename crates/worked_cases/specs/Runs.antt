@@ -1,6 +1,6 @@
 -- What is told of runs.
 use Rattle.std.specs.Prelude.{ℕ, ◌≡◌, List, [], ◌∷◌, ◌++◌, map, string_bytes}
-use Rattle.xor_cli.specs.Words.{texts}
+use Rattle.program_status.specs.Words.{texts}
 use Rattle.worked_cases.specs.declared.answers.Answer.{Answer}
 use Rattle.worked_cases.specs.declared.calls.Call.{Call}
 use Rattle.worked_cases.specs.declared.lists.Run.{Run}

@@ -2,7 +2,7 @@
 use Rattle.std.specs.Prelude.{ℕ, ◌==◌, ◌||◌, ◌&&◌, nat_le, Bool, if◌then◌else◌, List, [], ◌∷◌, ◌++◌, codes}
 use Rattle.std.specs.List.{list_all}
 use Rattle.std.specs.Fmt.{decimal}
-use Rattle.host_scripts.specs.Scripts.{hex}
+use Rattle.text_fields.specs.Spelling.{hex}
 use Rattle.worked_cases.specs.declared.answers.Answer.{Answer}
 use Rattle.worked_cases.specs.declared.lists.Value.{Value}
 use Rattle.worked_cases.specs.declared.lists.Value.TheVariants as values

@@ -3,7 +3,7 @@
 ghost use Rattle.std.specs.Prelude.{◌≡◌, [], IfOk};
 ghost use Rattle.worked_cases.specs.Answers.{IsToolAnswer, IsCheckAnswer};
 ghost use Rattle.worked_cases.specs.Runs.{Answers};
-ghost use Rattle.xor_cli.specs.Words.{texts};
+ghost use Rattle.program_status.specs.Words.{texts};
 
 use crate::calls::{Call, Outlet, Program};
 use blocks_core::{Bytes, Memory};

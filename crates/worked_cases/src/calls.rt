@@ -57,7 +57,6 @@ impl Outlet {
     }
 }
 
-/// The program with this name.
 fn program_of(name: &[u8]) -> Result<Program, Wrong> {
     match name {
         b"xorarray" => Ok(Program::Array),
@@ -127,7 +126,6 @@ impl Draft {
         Ok(())
     }
 
-    /// Takes the room of a sink.
     fn take_room(&mut self, rest: &[u8]) -> Result<(), Wrong> {
         let (name, number) = cut_at(rest, b' ');
         self.outlet(name)?.room = number_of(number)? as usize;

@@ -42,13 +42,11 @@ fn ended(text: &[u8], span: Span) -> Span
     }
 }
 
-/// The text without a line.
 fn without_line(alloc: Global, text: &[u8], number: u32) -> Result<Bytes, Wrong> {
     let span = line_span(text, number)?;
     Ok(spliced(alloc, text, ended(text, span), b"")?)
 }
 
-/// The text with a line twice.
 fn with_line_twice(alloc: Global, text: &[u8], number: u32) -> Result<Bytes, Wrong> {
     let span = line_span(text, number)?;
     let Span { from, to } = ended(text, span);

@@ -5,7 +5,7 @@ ghost use Rattle.worked_cases.specs.Faults.{placed, words_of, fault_line};
 
 use blocks_core::{Bytes, Memory};
 use std::alloc::Global;
-use stripe_check::push_number;
+use text_fields::push_number;
 
 /// What was to stand in a line that is no line of a list.
 #[derive(Clone, Copy, Debug, PartialEq, Eq)]

@@ -6,8 +6,8 @@ ghost use Rattle.worked_cases.specs.Lines.{AreLines, filled};
 
 use crate::faults::{Expected, Wrong};
 use blocks_core::{Bytes, Memory};
-use host_scripts::ranged;
 use std::alloc::Global;
+use text_fields::number_u32;
 
 /// A line without its end, and its number from 1.
 #[derive(Clone, Copy, Debug)]
@@ -95,7 +95,7 @@ pub fn span_of(text: &[u8], mark: u8, number: u32) -> Option<Span>
 
 /// The number that a word spells.
 pub fn number_of(word: &[u8]) -> Result<u32, Wrong> {
-    match ranged(word, 0, u32::MAX) {
+    match number_u32(word) {
         Some(number) => Ok(number),
         None => Err(Wrong::Unread(Expected::Number)),
     }

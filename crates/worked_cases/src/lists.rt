@@ -12,7 +12,7 @@ use crate::texts::{Blocks, take_line};
 use blocks_core::{Bytes, Memory};
 use outer_io::READ_LIMIT;
 use std::alloc::Global;
-use stripe_check::push_number;
+use text_fields::push_number;
 
 /// What is written in a case's lines in the place of `{}`.
 #[derive(Drop)]
@@ -200,7 +200,6 @@ impl Gathered {
         }
     }
 
-    /// Adds a block.
     fn add_block(&mut self, alloc: Global, part: Part) -> Result<(), ListFault>
         ensures { (list : List ℕ) → IsPart list part.entry → IfErr result (IsFaultOf list) }
     {
@@ -216,7 +215,6 @@ impl Gathered {
         Ok(())
     }
 
-    /// Adds a block or a case.
     fn add(&mut self, alloc: Global, part: Part) -> Result<(), ListFault>
         ensures { (list : List ℕ) → IsPart list part.entry → IfErr result (IsFaultOf list) }
     {

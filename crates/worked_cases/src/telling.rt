@@ -1,7 +1,7 @@
 //! How answers are told.
 
 ghost use Rattle.std.specs.Prelude.{◌≡◌, ◌++◌, ◌∷◌, [], OnOk, IfOk, codes};
-ghost use Rattle.host_scripts.specs.Scripts.{hex};
+ghost use Rattle.text_fields.specs.Spelling.{hex};
 ghost use Rattle.worked_cases.specs.Told.{is_plain, piece_told, lines_told, written_told, status_told, answer_told, heading_told};
 ghost use Rattle.worked_cases.specs.Runs.{AreTold, IsTold};
 
@@ -9,7 +9,7 @@ use crate::answers::{Answer, answer_to};
 use crate::lists::{Run, Value, push_value};
 use blocks_core::{Bytes, Memory};
 use std::alloc::Global;
-use stripe_check::{push_hex, push_number};
+use text_fields::{push_hex, push_number};
 
 /// Whether a text has only line ends and bytes of ASCII that are seen.
 fn is_plain(text: &[u8]) -> bool
@@ -58,8 +58,8 @@ fn push_bytes(alloc: Global, text: &mut Bytes, name: &[u8], written: &[u8]) -> R
     push_piece(text, name, b"hex ", digits.as_slice())
 }
 
-/// Tells what was written: its lines, each behind a bar, the last one behind a plus where it has no end; or its bytes, where
-/// one isn't seen.
+/// Tells what was written: its lines, each behind a bar, the last one behind a plus where it has no end; or
+/// its bytes, where one isn't seen.
 #[tactic(auto, unfolding(crate::specs::Told::written_told))]
 fn push_written(alloc: Global, text: &mut Bytes, name: &[u8], written: &[u8]) -> Result<(), Memory>
     ensures { OnOk result (text.new ≡ text.old ++ written_told name.now written.now) }
@@ -71,7 +71,6 @@ fn push_written(alloc: Global, text: &mut Bytes, name: &[u8], written: &[u8]) ->
     }
 }
 
-/// Tells a status.
 fn push_status(text: &mut Bytes, status: u8) -> Result<(), Memory>
     ensures { OnOk result (text.new ≡ text.old ++ status_told status) }
 {
@@ -80,7 +79,6 @@ fn push_status(text: &mut Bytes, status: u8) -> Result<(), Memory>
     text.push(b'\n')
 }
 
-/// Tells an answer.
 fn push_answer(alloc: Global, text: &mut Bytes, answer: &Answer) -> Result<(), Memory>
     ensures { OnOk result (text.new ≡ text.old ++ answer_told answer.now) }
 {

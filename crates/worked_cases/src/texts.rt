@@ -4,8 +4,8 @@ use crate::edits::{change, is_change};
 use crate::faults::{Expected, Wrong};
 use crate::lines::{cut_at, number_of};
 use blocks_core::{Bytes, Memory};
-use host_scripts::hex_bytes;
 use std::alloc::Global;
+use text_fields::hex_bytes;
 
 /// The most bytes of a text.
 const LONGEST: usize = 67_108_864;
@@ -50,6 +50,7 @@ impl Blocks {
 
 /// Puts bytes at the end of a text so many times.
 fn push_times(text: &mut Bytes, bytes: &[u8], times: u32) -> Result<(), Wrong> {
+    // Each factor is tested alone first, so that the product doesn't overflow.
     if times as usize > LONGEST || bytes.len() > LONGEST || bytes.len() * times as usize > LONGEST {
         return Err(Wrong::Unread(Expected::Length));
     }

@@ -1,6 +1,6 @@
 use Rattle.std.proofs.Common.{◌∙◌, List, Some, String, subst}
 use Rattle.std.specs.declared.alloc.Global.{Global}
-use Rattle.xor_cli.specs.Words.{texts}
+use Rattle.program_status.specs.Words.{texts}
 use Rattle.worked_cases.specs.Answers.{CheckSays}
 use Rattle.worked_cases.proofs.Answering.{check-told}
 use Rattle.worked_cases.proofs.answers.check_answer.Goals as goal
@@ -15,7 +15,7 @@ returns c =
       rejected = c.check-status.ensures.rejected;
       refused = c.check-status.ensures.refused;
       limited = c.check-status.ensures.limited;
-      usage = c.check-status.ensures.usage;
+      usage = c.check-status.ensures.causes.usage;
       no_other = c.check-status.ensures.no_other;
       unwritten = c.check-status.ensures.unwritten;
       noted = c.check-status.ensures.noted;

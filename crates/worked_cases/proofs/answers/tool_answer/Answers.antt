@@ -1,6 +1,6 @@
 use Rattle.std.proofs.Common.{◌∙◌, List, Some, String, subst}
 use Rattle.std.specs.declared.alloc.Global.{Global}
-use Rattle.xor_cli.specs.Words.{texts}
+use Rattle.program_status.specs.Words.{texts}
 use Rattle.worked_cases.specs.Answers.{ToolSays}
 use Rattle.worked_cases.proofs.Answering.{tool-told}
 use Rattle.worked_cases.proofs.answers.tool_answer.Goals as goal
@@ -14,7 +14,7 @@ returns c =
       done = c.tool-outcome.ensures.done;
       refused = c.tool-outcome.ensures.refused;
       exceeded = c.tool-outcome.ensures.exceeded;
-      usage = c.tool-outcome.ensures.usage;
+      usage = c.tool-outcome.ensures.causes.usage;
       no_other = c.tool-outcome.ensures.no_other;
       unwritten = c.tool-outcome.ensures.unwritten;
       noted = c.tool-outcome.ensures.noted;
