@@ -58,7 +58,7 @@ def read_of_pieces(pieces):
         row = stripe * UNIT + piece % UNIT
         stamp = 3 * piece + 1
         yield (f"{stamp} 0 open {piece} 1 {piece} read {stripe} {target} {parity} {row} 1 -\n"
-               f"{stamp + 1} {target + 1} fetch {piece} {stamp}.0 2800{row:08x}00000100 0 00\n"
+               f"{stamp + 1} {target + 1} fetch {piece} {stamp}.0 2800{row:08x}00000100 {row} 00\n"
                f"{stamp + 2} 0 close {piece} 1 {stamp + 1}.{target + 1} - -\n")
 
 
