@@ -16,6 +16,3 @@ pub use memory::Memory;
 pub use owners::Owners;
 pub use sum::XorSum;
 pub use xor::xor_into;
-
-#[cfg(test)]
-mod tests;

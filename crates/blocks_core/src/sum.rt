@@ -44,8 +44,8 @@ impl XorSum {
         Ok(())
     }
 
-    /// The same, for bytes that are no longer than those before.
-    fn add_within(&mut self, bytes: &[u8])
+    /// The same without taking memory, for bytes that are no longer than those before.
+    pub fn add_within(&mut self, bytes: &[u8])
         requires { length bytes.now ≤ length self.old }
         ensures { self.new ≡ xor self.old bytes.now }
     {
