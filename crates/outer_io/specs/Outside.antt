@@ -67,25 +67,25 @@ abbrev pub failed : Filling → Filling
 failed sink = record sink { faults = raised sink.faults }
 
 -- which calls fail, by their numbers from 1, and how many were made
-pub record Plan : Type 0 where
+pub record FailingCalls : Type 0 where
   pub fails : List ℕ
   pub made : ℕ
 
 -- a call is made
-abbrev pub called : Plan → Plan
-called plan = record plan { made = raised plan.made }
+abbrev pub called : FailingCalls → FailingCalls
+called calls = record calls { made = raised calls.made }
 
 -- the next call is one of those that fail
-abbrev pub FailsNext : Plan → Type 0
-FailsNext plan = Contains plan.fails (called plan).made
+abbrev pub FailsNext : FailingCalls → Type 0
+FailsNext calls = Contains calls.fails (called calls).made
 
--- a source in memory of which some calls fail: the bytes left, the plan, and how often it has failed
+-- a source in memory of which some calls fail: the bytes left, which calls those are, and how often it has failed
 pub record FailingBytes : Type 0 where
   pub unread : List ℕ
-  pub plan : Plan
+  pub calls : FailingCalls
   pub faults : ℕ
 
 -- a sink in memory of which some calls fail
 pub record FailingFilling : Type 0 where
   pub sink : Filling
-  pub plan : Plan
+  pub calls : FailingCalls

@@ -4,6 +4,7 @@
 
 mod adapters;
 mod failing;
+mod failing_calls;
 mod gate;
 mod input;
 mod memory;
@@ -12,11 +13,9 @@ mod writing;
 
 pub use adapters::{ReaderSource, WriterSink};
 pub use failing::{FailingSink, FailingSource};
+pub use failing_calls::FailingCalls;
 pub use gate::{Gate, GatePoint, OpenGate};
 pub use input::{InputFault, READ_LIMIT, read_input};
 pub use memory::{MemorySink, MemorySource};
 pub use traits::{Failed, Sink, Source};
 pub use writing::write_all;
-
-#[cfg(test)]
-mod tests;
