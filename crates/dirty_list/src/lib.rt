@@ -4,6 +4,3 @@
 mod list;
 
 pub use list::DirtyList;
-
-#[cfg(test)]
-mod tests;

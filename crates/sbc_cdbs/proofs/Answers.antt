@@ -2,7 +2,7 @@
 use Rattle.std.proofs.Common.{◌≡◌, ℕ, List, [], ◌∷◌, length, get_or, sym, ap, subst, ◌∙◌, Some, None, Result, Ok, Err, MatchResult, option_map, slice_get}
 use Rattle.cdb_fields.specs.Fields.{IsFirstShared, SharesNone}
 use Rattle.cdb_fields.proofs.Shared.{first_shared_unique}
-use Rattle.sbc_cdbs.specs.Cdbs.{spelling, Spells, Fits}
+use Rattle.sbc_cdbs.specs.Cdbs.{spelling, SpellsCdb, Fits}
 use Rattle.sbc_cdbs.specs.Faults.{reserved_bits, mask_of, wanted_length, IsFault}
 use Rattle.sbc_cdbs.specs.Reading.{command_of}
 use Rattle.sbc_cdbs.specs.declared.commands.Command.{Command}
@@ -46,7 +46,7 @@ clean_faultless (code ∷ rest) (OpCode c) h e = let same : code ≡ c = cc in a
 clean_faultless (code ∷ rest) (Length want got) h e = absurd (e.1 (e.0 ∙ h.long ∙ wanted code rest h.mask want h.known e.2))
 clean_faultless (code ∷ rest) (Bits byte) h e = absurd (e.first.1 (subst (λ m. SharesNone m (code ∷ rest) byte) (same_mask (code ∷ rest) h.mask e.mask h.known e.known) (h.none byte)))
 
-pub faultless : (bytes : List ℕ) (v : Command) (f : CdbFault) → Spells bytes v → IsFault bytes f → ⊥
+pub faultless : (bytes : List ℕ) (v : Command) (f : CdbFault) → SpellsCdb bytes v → IsFault bytes f → ⊥
 faultless bytes v f h e = clean_faultless bytes f (subst Clean (sym h.0) (clean v)) e
 
 pub one_fault : (bytes : List ℕ) (f g : CdbFault) → IsFault bytes f → IsFault bytes g → f ≡ g
@@ -67,10 +67,10 @@ one_fault (code ∷ rest) (Bits k) (Length w n) a b = absurd (b.1 (b.0 ∙ a.lon
 one_fault (code ∷ rest) (Bits k) (Bits j) a b =
     ap Bits (first_shared_unique a.mask (code ∷ rest) k j a.first (subst (λ m. IsFirstShared m (code ∷ rest) j) (same_mask (code ∷ rest) b.mask a.mask b.known a.known) b.first))
 
-pub reads : (bytes : List ℕ) (r : Result Command CdbFault) → MatchResult r (Spells bytes) (IsFault bytes) → (v : Command) → Spells bytes v → r ≡ Ok v
+pub reads : (bytes : List ℕ) (r : Result Command CdbFault) → MatchResult r (SpellsCdb bytes) (IsFault bytes) → (v : Command) → SpellsCdb bytes v → r ≡ Ok v
 reads bytes (Ok w) h v s = ap Ok (one_command w v h.1 s.1 (sym h.0 ∙ s.0))
 reads bytes (Err f) h v s = absurd (faultless bytes v f s h)
 
-pub refuses : (bytes : List ℕ) (r : Result Command CdbFault) → MatchResult r (Spells bytes) (IsFault bytes) → (f : CdbFault) → IsFault bytes f → r ≡ Err f
+pub refuses : (bytes : List ℕ) (r : Result Command CdbFault) → MatchResult r (SpellsCdb bytes) (IsFault bytes) → (f : CdbFault) → IsFault bytes f → r ≡ Err f
 refuses bytes (Ok w) h f e = absurd (faultless bytes w f h e)
 refuses bytes (Err g) h f e = ap Err (one_fault bytes g f h e)

@@ -9,7 +9,7 @@ use Rattle.cdb_fields.specs.Fields.{bits, flag, SharesNone}
 use Rattle.cdb_fields.proofs.Masks.{made_of, all_reserved}
 use Rattle.cdb_fields.proofs.Cells.{number_4, number_2, number_4_fits, number_2_fits, whole, cells}
 use Rattle.cdb_fields.proofs.Bits.{bits_below}
-use Rattle.sbc_cdbs.specs.Cdbs.{Spells}
+use Rattle.sbc_cdbs.specs.Cdbs.{SpellsCdb}
 use Rattle.sbc_cdbs.specs.Faults.{reserved_bits}
 use Rattle.sbc_cdbs.specs.Reading.{command_of}
 
@@ -114,7 +114,7 @@ rebuild_mask = 0 ∷ 0xe3 ∷ 0 ∷ 0 ∷ 0 ∷ 0 ∷ 0 ∷ 0 ∷ 0 ∷ 0 ∷ 0 
 
 -- a block's fields spell it
 abbrev Reads : ℕ → List ℕ → Type 0
-Reads code xs = Spells xs (command_of code xs)
+Reads code xs = SpellsCdb xs (command_of code xs)
 
 read : (xs mask : List ℕ) → Block 0x28 xs mask → Reads 0x28 xs
 read xs mask t =

@@ -52,8 +52,8 @@ Fits (Rebuild dpo fua intdata lba count list) = (lba < 2 ^ 32) × (count < 2 ^ 3
 Fits (Regenerate dpo fua intdata lba count list) = (lba < 2 ^ 32) × (count < 2 ^ 32) × (list < 2 ^ 32)
 
 -- the bytes spell the command
-abbrev pub Spells : List ℕ → Command → Type 0
-Spells bytes command = (bytes ≡ spelling command) × Fits command
+abbrev pub SpellsCdb : List ℕ → Command → Type 0
+SpellsCdb bytes command = (bytes ≡ spelling command) × Fits command
 
 -- what encode takes: page control and page code of a MODE SENSE fit their bits
 abbrev pub CanEncode : Command → Type 0

@@ -2,7 +2,7 @@ ghost use Rattle.sbc_cdbs.specs.declared.commands.Command.{Command};
 ghost use Rattle.sbc_cdbs.specs.declared.decoding.CdbFault.{CdbFault};
 ghost use Rattle.std.specs.Prelude.{Ok, Err, IfOk, IfErr, ◌≡◌, Some, None, MatchOption, MatchResult, length, option_map};
 ghost use Rattle.sbc_cdbs.specs.Faults.{reserved_bits, IsFault};
-ghost use Rattle.sbc_cdbs.specs.Cdbs.{Spells};
+ghost use Rattle.sbc_cdbs.specs.Cdbs.{SpellsCdb};
 ghost use Rattle.sbc_cdbs.specs.Reading.{command_of};
 
 use crate::Command;
@@ -23,8 +23,8 @@ pub enum CdbFault {
 /// The command that a descriptor block spells (SBC, SPC), else the first fault: an unknown operation
 /// code, a wrong length, a bit that must be zero. No byte at all is a length of 0 where 1 is wanted.
 pub fn decode(bytes: &[u8]) -> Result<Command, CdbFault>
-    ensures spelt { IfOk result (Spells bytes.now) }
-    ensures read { (v : Command) → Spells bytes.now v → result ≡ Ok v }
+    ensures spelt { IfOk result (SpellsCdb bytes.now) }
+    ensures read { (v : Command) → SpellsCdb bytes.now v → result ≡ Ok v }
     ensures fault { IfErr result (IsFault bytes.now) }
     ensures refused { (f : CdbFault) → IsFault bytes.now f → result ≡ Err f }
 {
@@ -34,7 +34,7 @@ pub fn decode(bytes: &[u8]) -> Result<Command, CdbFault>
 /// The same answer by one clause in the place of four: that a fault is answered exactly where it is the
 /// first follows from it, since bytes spell at most one command and have at most one first fault.
 fn first_answer(bytes: &[u8]) -> Result<Command, CdbFault>
-    ensures { MatchResult result (Spells bytes.now) (IsFault bytes.now) }
+    ensures { MatchResult result (SpellsCdb bytes.now) (IsFault bytes.now) }
 {
     let Some(code) = bytes.first() else {
         return Err(CdbFault::Length { want: 1, got: 0 });

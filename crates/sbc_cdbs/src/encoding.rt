@@ -1,6 +1,6 @@
 ghost use Rattle.sbc_cdbs.specs.declared.commands.Command.{Command};
 ghost use Rattle.std.specs.Prelude.{◌≡◌};
-ghost use Rattle.sbc_cdbs.specs.Cdbs.{spelling, CanEncode, Fits, Spells, cdb_bytes};
+ghost use Rattle.sbc_cdbs.specs.Cdbs.{spelling, CanEncode, Fits, SpellsCdb, cdb_bytes};
 
 use crate::tables::*;
 use crate::{Cdb, Command};
@@ -22,7 +22,7 @@ pub fn encode(command: &Command) -> Cdb
     requires { CanEncode command.now }
     ensures bytes { cdb_bytes result ≡ spelling command.now }
     // So decode gives the command again.
-    ensures spells { Spells (cdb_bytes result) command.now }
+    ensures spells { SpellsCdb (cdb_bytes result) command.now }
 {
     let command = *command;
     match command {

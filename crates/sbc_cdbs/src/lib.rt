@@ -12,6 +12,3 @@ pub use commands::Command;
 pub use decoding::{CdbFault, decode};
 pub use descriptor::Cdb;
 pub use encoding::{encode, spelling_law};
-
-#[cfg(test)]
-mod tests;

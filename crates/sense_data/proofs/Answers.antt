@@ -7,7 +7,7 @@ use Rattle.sense_data.specs.declared.decoding.SenseFault.{SenseFault}
 use Rattle.sense_data.specs.declared.decoding.SenseFault.TheVariants.{Length, Code, Bits}
 use Rattle.sense_data.specs.Faults.{IsFault, mask_of, without_length}
 use Rattle.sense_data.specs.Reading.{values, values_given, header_of, additional_of, pointer_parts}
-use Rattle.sense_data.specs.Senses.{spelling, Spells, Fits}
+use Rattle.sense_data.specs.Senses.{spelling, SpellsSense, Fits}
 use Rattle.sense_data.proofs.Values.{spelling_by_values, same_sense}
 use Rattle.sense_data.proofs.Again.{again, clean, Clean, Sound, PartsFit}
 
@@ -51,7 +51,7 @@ clean_faultless b (Length got) h e = e.1 (e.0 ∙ h.long)
 clean_faultless b (Code got) h e = e.2 (e.1 ∙ h.code)
 clean_faultless b (Bits byte) h e = e.2.1 (h.none byte)
 
-pub faultless : (b : List ℕ) (s : Sense) (f : SenseFault) → Spells b s → IsFault b f → ⊥
+pub faultless : (b : List ℕ) (s : Sense) (f : SenseFault) → SpellsSense b s → IsFault b f → ⊥
 faultless b s f h e =
     clean_faultless b f (subst Clean (sym (h.0 ∙ spelling_by_values s)) (clean (values s) (sound s h.1))) e
 
@@ -66,10 +66,10 @@ one_fault b (Bits j) (Length n) x y = absurd (y.1 (y.0 ∙ x.0))
 one_fault b (Bits j) (Code n) x y = absurd (y.2 (y.1 ∙ x.1))
 one_fault b (Bits j) (Bits k) x y = ap Bits (first_shared_unique (mask_of b) (without_length b) j k x.2 y.2)
 
-pub reads : (b : List ℕ) (r : Result Sense SenseFault) → MatchResult r (Spells b) (IsFault b) → (s : Sense) → Spells b s → r ≡ Ok s
+pub reads : (b : List ℕ) (r : Result Sense SenseFault) → MatchResult r (SpellsSense b) (IsFault b) → (s : Sense) → SpellsSense b s → r ≡ Ok s
 reads b (Ok w) h s e = ap Ok (one_sense w s h.1 e.1 (sym h.0 ∙ e.0))
 reads b (Err f) h s e = absurd (faultless b s f e h)
 
-pub refuses : (b : List ℕ) (r : Result Sense SenseFault) → MatchResult r (Spells b) (IsFault b) → (f : SenseFault) → IsFault b f → r ≡ Err f
+pub refuses : (b : List ℕ) (r : Result Sense SenseFault) → MatchResult r (SpellsSense b) (IsFault b) → (f : SenseFault) → IsFault b f → r ≡ Err f
 refuses b (Ok w) h f e = absurd (faultless b w f h e)
 refuses b (Err g) h f e = ap Err (one_fault b g f h e)

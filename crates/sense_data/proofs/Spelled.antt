@@ -13,7 +13,7 @@ use Rattle.cdb_fields.proofs.Cells.{number_4, number_2, whole, cells}
 use Rattle.sense_data.specs.declared.senses.Sense.{Sense}
 use Rattle.sense_data.specs.Faults.{mask_of, without_length}
 use Rattle.sense_data.specs.Reading.{Values, values, values_given, pointer_given, pointer_parts, header_of, additional_of}
-use Rattle.sense_data.specs.Senses.{Spells}
+use Rattle.sense_data.specs.Senses.{SpellsSense}
 use Rattle.sense_data.proofs.Values.{value_bytes, parts_bytes, spelling_by_values}
 
 -- eighteen bytes of this response code, without a wrong bit
@@ -147,7 +147,7 @@ pointer_fits None g e h = tt
 pointer_fits (Some p) g e h = subst (λ (o : Option (Bool × Option ℕ × ℕ)). IfSome o (λ t. t.2 < 2 ^ 16)) (sym e) h
 
 -- a sense with these values is spelled by the bytes
-pub spells : (b : List ℕ) (s : Sense) → Block b → values s ≡ values_given (header_of b) (additional_of b) → Spells b s
+pub spells : (b : List ℕ) (s : Sense) → Block b → values s ≡ values_given (header_of b) (additional_of b) → SpellsSense b s
 spells b s t e =
     let information : s.information ≡ (header_of_information b) = ap (λ (v : Values). v.information) e in
     let specific : s.specific ≡ number_at 8 4 b = ap (λ (v : Values). v.specific) e in

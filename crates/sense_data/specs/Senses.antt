@@ -32,5 +32,5 @@ pub record Fits (s : Sense) : Type 0 where
   pub byte : IfSome s.pointer (λ p. p.byte < 2 ^ 16)
 
 -- the bytes spell the sense
-abbrev pub Spells : List ℕ → Sense → Type 0
-Spells bytes s = (bytes ≡ spelling s) × Fits s
+abbrev pub SpellsSense : List ℕ → Sense → Type 0
+SpellsSense bytes s = (bytes ≡ spelling s) × Fits s

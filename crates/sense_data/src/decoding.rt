@@ -4,7 +4,7 @@ ghost use Rattle.sense_data.specs.declared.decoding.SenseFault.{SenseFault};
 ghost use Rattle.sense_data.specs.declared.senses.Sense.{Sense};
 ghost use Rattle.sense_data.specs.Faults.{IsFault, mask_of, without_length};
 ghost use Rattle.sense_data.specs.Reading.{header_of, additional_of, pointer_parts, pointer_given, values, values_given};
-ghost use Rattle.sense_data.specs.Senses.{Spells};
+ghost use Rattle.sense_data.specs.Senses.{SpellsSense};
 
 use crate::layout::{
     ADDITIONAL_LENGTH, Additional, Header, RESPONSE_CODE, read_additional, read_header, reserved,
@@ -26,8 +26,8 @@ pub enum SenseFault {
 /// The sense that 18 bytes spell (SPC, fixed format, current error), else the first fault: the length,
 /// the response code, the lowest byte with a bit that is not as it must be.
 pub fn decode(bytes: &[u8]) -> Result<Sense, SenseFault>
-    ensures spelt { IfOk result (Spells bytes.now) }
-    ensures read { (s : Sense) → Spells bytes.now s → result ≡ Ok s }
+    ensures spelt { IfOk result (SpellsSense bytes.now) }
+    ensures read { (s : Sense) → SpellsSense bytes.now s → result ≡ Ok s }
     ensures fault { IfErr result (IsFault bytes.now) }
     ensures refused { (f : SenseFault) → IsFault bytes.now f → result ≡ Err f }
 {
@@ -37,7 +37,7 @@ pub fn decode(bytes: &[u8]) -> Result<Sense, SenseFault>
 /// The same answer by one clause in the place of four: that a fault is answered exactly where it is the
 /// first follows from it, since bytes spell at most one sense and have at most one first fault.
 fn first_answer(bytes: &[u8]) -> Result<Sense, SenseFault>
-    ensures { MatchResult result (Spells bytes.now) (IsFault bytes.now) }
+    ensures { MatchResult result (SpellsSense bytes.now) (IsFault bytes.now) }
 {
     match bytes.as_array::<18>() {
         Some(block) => block_answer(block),
@@ -46,7 +46,7 @@ fn first_answer(bytes: &[u8]) -> Result<Sense, SenseFault>
 }
 
 fn block_answer(block: &[u8; 18]) -> Result<Sense, SenseFault>
-    ensures { MatchResult result (Spells block.now) (IsFault block.now) }
+    ensures { MatchResult result (SpellsSense block.now) (IsFault block.now) }
 {
     let header = read_header(block);
     if header.code != RESPONSE_CODE {

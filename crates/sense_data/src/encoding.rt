@@ -1,7 +1,7 @@
 ghost use Rattle.sense_data.specs.declared.senses.Sense.{Sense};
 ghost use Rattle.std.specs.Prelude.{◌≡◌, ◌<◌, ◌^◌};
 ghost use Rattle.sense_data.specs.Reading.{header_fields, additional_fields, AdditionalFits};
-ghost use Rattle.sense_data.specs.Senses.{spelling, Fits, Spells};
+ghost use Rattle.sense_data.specs.Senses.{spelling, Fits, SpellsSense};
 
 use crate::layout::{
     ADDITIONAL_LENGTH, Additional, Header, RESPONSE_CODE, additional_block, header_block,
@@ -12,7 +12,7 @@ use crate::{Pointer, Sense};
 pub fn encode(sense: &Sense) -> [u8; 18]
     ensures bytes { result ≡ spelling sense.now }
     // So decode gives the sense again.
-    ensures spells { Spells result sense.now }
+    ensures spells { SpellsSense result sense.now }
 {
     let mut bytes = header_block(header_from(*sense));
     bytes[8..].copy_from_slice(&additional_block(additional_from(*sense))[8..]);

@@ -9,6 +9,3 @@ mod senses;
 pub use decoding::{SenseFault, decode};
 pub use encoding::{encode, spelling_law};
 pub use senses::{Pointer, Sense};
-
-#[cfg(test)]
-mod tests;

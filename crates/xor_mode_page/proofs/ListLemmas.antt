@@ -8,7 +8,7 @@ use Rattle.cdb_fields.proofs.Cells.{cells}
 use Rattle.xor_mode_page.specs.declared.pages.XorPage.{XorPage}
 use Rattle.xor_mode_page.specs.declared.pages.PageFault.{PageFault}
 use Rattle.xor_mode_page.specs.declared.pages.PageFault.TheVariants.{Length, Field}
-use Rattle.xor_mode_page.specs.Pages.{spelling, Spells, IsFine, fixed_bits, fixed_values, list_bits, list_values, select_header, Selects, HasLength, IsListFault}
+use Rattle.xor_mode_page.specs.Pages.{spelling, SpellsPage, IsFine, fixed_bits, fixed_values, list_bits, list_values, select_header, Selects, HasLength, IsListFault}
 use Rattle.xor_mode_page.proofs.PageLemmas.{◌&◌, fixed_byte, zip_fine, spelling_zips, one_page}
 
 -- the page behind the header is fine where the list is
@@ -42,7 +42,7 @@ header_first list long fits fine =
 
 -- a list with the page sets it
 pub sets_page : (list : List ℕ) (old new : XorPage) → length list ≡ 32 → ((i : ℕ) → get_or list i 0 < 256) → ((k : ℕ) → k < length list → IsFine list_bits list_values list k)
-    → Spells (drop 8 list) new → Selects list old new
+    → SpellsPage (drop 8 list) new → Selects list old new
 sets_page list old new len fits fine s =
     inr (inr (header_first list (omega (arith, len)) fits fine ∙ ap (λ (t : List ℕ). select_header ++ t) s.spelled, s.fits))
 

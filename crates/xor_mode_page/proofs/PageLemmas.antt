@@ -13,7 +13,7 @@ use Rattle.byteorder.specs.Endian.{big_number}
 use Rattle.xor_mode_page.specs.declared.pages.XorPage.{XorPage}
 use Rattle.xor_mode_page.specs.declared.pages.PageFault.{PageFault}
 use Rattle.xor_mode_page.specs.declared.pages.PageFault.TheVariants.{Length, Field}
-use Rattle.xor_mode_page.specs.Pages.{spelling, Spells, IsPageFault, IsFine, fixed_bits, fixed_values}
+use Rattle.xor_mode_page.specs.Pages.{spelling, SpellsPage, IsPageFault, IsFine, fixed_bits, fixed_values}
 
 -- the value of a byte of which all bits are fixed
 pub fixed_byte : (b v : ℕ) → b < 256 → bit_and b 255 ≡ v → b ≡ v
@@ -64,7 +64,7 @@ parts_spell page x w g r d b0 b1 b2 b3 write b8 b9 b10 b11 regenerate rebuild b2
 pub fields_spell : (page : List ℕ) (xordis max_write max_regenerate max_rebuild delay : ℕ) → length page ≡ 24 → ((i : ℕ) → get_or page i 0 < 256)
     → ((k : ℕ) → k < 24 → IsFine fixed_bits fixed_values page k)
     → xordis ≡ bits 1 1 (get_or page 2 0) → max_write ≡ number_at 4 4 page → max_regenerate ≡ number_at 12 4 page → max_rebuild ≡ number_at 16 4 page → delay ≡ number_at 22 2 page
-    → Spells page (record { xordis = eqb xordis 1; max_write = max_write; max_regenerate = max_regenerate; max_rebuild = max_rebuild; delay = delay })
+    → SpellsPage page (record { xordis = eqb xordis 1; max_write = max_write; max_regenerate = max_regenerate; max_rebuild = max_rebuild; delay = delay })
 fields_spell page x w g r d len fits fine xe we ge re de =
     let fixed = λ (i : ℕ) (h : i < 24) (e : get_or fixed_bits i 0 ≡ 255). fixed_byte (get_or page i 0) (get_or fixed_values i 0) (fits i) (ap (λ m. bit_and (get_or page i 0) m) (sym e) ∙ fine i h) in
     let b0 : get_or page 0 0 ≡ 16 = fixed 0 (omega arith) refl in
@@ -131,7 +131,7 @@ same_flag false true e = absurd (omega arith)
 same_flag false false e = refl
 
 -- two pages of one spelling are one
-pub one_page : (bytes : List ℕ) (p q : XorPage) → Spells bytes p → Spells bytes q → p ≡ q
+pub one_page : (bytes : List ℕ) (p q : XorPage) → SpellsPage bytes p → SpellsPage bytes q → p ≡ q
 one_page bytes p q s t =
     let both : spelling p ≡ spelling q = sym s.spelled ∙ t.spelled in
     let at = λ (i : ℕ). ap (λ (t : List ℕ). get_or t i 0) both in
@@ -150,12 +150,12 @@ one_page bytes p q s t =
         ∙ ap (λ (x : ℕ). record { xordis = q.xordis; max_write = q.max_write; max_regenerate = q.max_regenerate; max_rebuild = q.max_rebuild; delay = x }) e
 
 -- bytes that spell a page are refused with no fault
-never_fault : (bytes : List ℕ) (p : XorPage) (e : PageFault) → Spells bytes p → IsPageFault bytes e → ⊥
+never_fault : (bytes : List ℕ) (p : XorPage) (e : PageFault) → SpellsPage bytes p → IsPageFault bytes e → ⊥
 never_fault bytes p (Length want got) s fault = fault.0 (ap length s.spelled)
 never_fault bytes p (Field byte) s fault =
     fault.1.offends (ap (λ (b : List ℕ). bit_and (get_or b byte 0) (get_or fixed_bits byte 0)) s.spelled ∙ spelling_is_fine p byte)
 
 -- what the bytes spell is the one answer
-pub one_answer : (bytes : List ℕ) (r : Result XorPage PageFault) (p : XorPage) → MatchResult r (Spells bytes) (IsPageFault bytes) → Spells bytes p → r ≡ Ok p
+pub one_answer : (bytes : List ℕ) (r : Result XorPage PageFault) (p : XorPage) → MatchResult r (SpellsPage bytes) (IsPageFault bytes) → SpellsPage bytes p → r ≡ Ok p
 one_answer bytes (Ok q) p found s = ap (λ (x : XorPage). Ok x) (one_page bytes q p found s)
 one_answer bytes (Err e) p found s = absurd (never_fault bytes p e s found)

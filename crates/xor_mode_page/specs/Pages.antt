@@ -23,7 +23,7 @@ pub record Fits (p : XorPage) : Type 0 where
   pub delay : p.delay < 2 ^ 16
 
 -- the bytes spell the page
-pub record Spells (bytes : List ℕ) (p : XorPage) : Type 0 where
+pub record SpellsPage (bytes : List ℕ) (p : XorPage) : Type 0 where
   pub spelled : bytes ≡ spelling p
   pub fits : Fits p
 

@@ -2,7 +2,7 @@ ghost use Rattle.std.specs.Prelude.{◌≡◌, ◌≢◌, ◌<◌, ◌^◌, ℕ,
 ghost use Rattle.std.specs.Int.{w16, w32, to_be_bytes};
 ghost use Rattle.xor_mode_page.specs.declared.pages.XorPage.{XorPage};
 ghost use Rattle.xor_mode_page.specs.declared.pages.PageFault.{PageFault};
-ghost use Rattle.xor_mode_page.specs.Pages.{spelling, Fits, Spells, IsPageFault, IsFine, fixed_bits, fixed_values};
+ghost use Rattle.xor_mode_page.specs.Pages.{spelling, Fits, SpellsPage, IsPageFault, IsFine, fixed_bits, fixed_values};
 
 use crate::bits::{BITS, HEADER, VALUES, offence};
 use crate::pages::{PageFault, XorPage};
@@ -12,9 +12,9 @@ use cdb_fields::fields;
 /// page's start, that has a bit that no page has there.
 pub fn decode_page(bytes: &[u8]) -> Result<XorPage, PageFault>
     // What is read is spelt so.
-    ensures found { IfOk result (Spells bytes.now) }
+    ensures found { IfOk result (SpellsPage bytes.now) }
     // What is spelt so is read.
-    ensures only { (page : XorPage) → Spells bytes.now page → result ≡ Ok page }
+    ensures only { (page : XorPage) → SpellsPage bytes.now page → result ≡ Ok page }
     // What an answered fault says of the bytes.
     ensures fault { IfErr result (IsPageFault bytes.now) }
     // When a fault is answered.
@@ -26,7 +26,7 @@ pub fn decode_page(bytes: &[u8]) -> Result<XorPage, PageFault>
 /// The same answer by one clause in the place of four: that a fault is answered exactly where it is the
 /// first follows from it, since bytes spell at most one page and have at most one first fault.
 fn first_answer(bytes: &[u8]) -> Result<XorPage, PageFault>
-    ensures { MatchResult result (Spells bytes.now) (IsPageFault bytes.now) }
+    ensures { MatchResult result (SpellsPage bytes.now) (IsPageFault bytes.now) }
 {
     let Some(page) = bytes.as_array::<24>() else {
         return Err(PageFault::Length {
@@ -43,7 +43,7 @@ fn first_answer(bytes: &[u8]) -> Result<XorPage, PageFault>
 /// The fields of a page whose fixed bits have their values.
 pub fn fields_of(page: &[u8; 24]) -> XorPage
     requires { (k : ℕ) → k < 24 → IsFine fixed_bits fixed_values page.now k }
-    ensures { Spells page.now result }
+    ensures { SpellsPage page.now result }
 {
     fields!(get page; XorPage {
         xordis: flag(2, 1),

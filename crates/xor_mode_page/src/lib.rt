@@ -9,6 +9,3 @@ mod parameters;
 pub use codec::{decode_page, encode_page, spelling_law};
 pub use pages::{PageFault, XorPage};
 pub use parameters::{select, sense};
-
-#[cfg(test)]
-mod tests;

@@ -8,7 +8,7 @@ use Rattle.std.proofs.Math.Seq.{take-add}
 use Rattle.std.proofs.lemmas.List.Elements.{All-nil, All-cons, All-head, All-tail}
 use Rattle.xor_params.specs.declared.sources.Descriptor.{Descriptor}
 use Rattle.xor_params.specs.declared.lists.Params.{Params}
-use Rattle.xor_params.specs.ParameterLists.{descriptor, room, spelling, data_due, Spells, announced_sources, announced_room, due, HasHead, reserved_bits, wrong_bits, place}
+use Rattle.xor_params.specs.ParameterLists.{descriptor, room, spelling, data_due, SpellsParams, announced_sources, announced_room, due, HasHead, reserved_bits, wrong_bits, place}
 use Rattle.cdb_fields.specs.Fields.{number_at}
 use Rattle.xor_params.proofs.TableLemmas.{source_spells}
 
@@ -26,7 +26,7 @@ pub parts_spell : (bytes : List ℕ) (intdata : Bool) (wanted : ℕ) (p : Params
     → flat_map descriptor p.sources ≡ take (16 * announced_sources bytes) (drop 4 bytes)
     → p.pad ≡ take (announced_room bytes - 16 * announced_sources bytes) (drop (4 + 16 * announced_sources bytes) bytes)
     → p.intermediate ≡ drop (4 + announced_room bytes) bytes
-    → Spells bytes intdata wanted p
+    → SpellsParams bytes intdata wanted p
 parts_spell [] intdata wanted p fits head whole count addresses sources pad_is data_is = absurd (omega (arith, head.long))
 parts_spell (a ∷ []) intdata wanted p fits head whole count addresses sources pad_is data_is = absurd (omega (arith, head.long))
 parts_spell (a ∷ b ∷ []) intdata wanted p fits head whole count addresses sources pad_is data_is = absurd (omega (arith, head.long))
@@ -112,7 +112,7 @@ same_sources (d ∷ ds) (e ∷ es) x y len l k same =
     (ap (λ (t : Descriptor). t ∷ ds) first.0 ∙ ap (λ (t : List Descriptor). e ∷ t) others.0, others.1)
 
 -- two lists of one spelling are one
-pub one_list : (bytes : List ℕ) (intdata : Bool) (wanted : ℕ) (p q : Params) → Spells bytes intdata wanted p → Spells bytes intdata wanted q → p ≡ q
+pub one_list : (bytes : List ℕ) (intdata : Bool) (wanted : ℕ) (p q : Params) → SpellsParams bytes intdata wanted p → SpellsParams bytes intdata wanted q → p ≡ q
 one_list bytes intdata wanted p q s t =
     let both : spelling p ≡ spelling q = sym s.spelled ∙ t.spelled in
     let at = λ (i : ℕ). ap (λ (t : List ℕ). get_or t i 0) both in
@@ -131,7 +131,7 @@ one_list bytes intdata wanted p q s t =
 
 -- bytes without a fault spell a list
 pub list_exists : (bytes : List ℕ) (intdata : Bool) (wanted : ℕ) → ((i : ℕ) → get_or bytes i 0 < 256) → HasHead bytes → length bytes ≡ due bytes intdata wanted
-    → ((k i : ℕ) → k < announced_sources bytes → i < 16 → wrong_bits bytes k i ≡ 0) → (p : Params) × Spells bytes intdata wanted p
+    → ((k i : ℕ) → k < announced_sources bytes → i < 16 → wrong_bits bytes k i ≡ 0) → (p : Params) × SpellsParams bytes intdata wanted p
 list_exists bytes intdata wanted fits head whole clean =
     let at : (k i : ℕ) → 4 + (16 * k + i) ≡ place k i = λ k i. omega arith in
     let found = sources_exist (announced_sources bytes) (drop 4 bytes) (omega (arith, length-drop 4 bytes, head.roomy, whole)) (λ i. rw get_or-drop (fits (4 + i)))

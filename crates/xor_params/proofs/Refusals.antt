@@ -9,7 +9,7 @@ use Rattle.xor_params.specs.declared.sources.Descriptor.{Descriptor}
 use Rattle.xor_params.specs.declared.lists.Params.{Params}
 use Rattle.xor_params.specs.declared.lists.ParamFault.{ParamFault}
 use Rattle.xor_params.specs.declared.lists.ParamFault.TheVariants.{Length, Field, Memory}
-use Rattle.xor_params.specs.ParameterLists.{descriptor, room, spelling, Fits, data_due, Spells, announced_room, reserved_bits, wrong_bits, place, IsRefused}
+use Rattle.xor_params.specs.ParameterLists.{descriptor, room, spelling, Fits, data_due, SpellsParams, announced_room, reserved_bits, wrong_bits, place, IsRefused}
 
 -- sixteen bytes for each source
 pub length-descriptors : (ds : List Descriptor) → length (flat_map descriptor ds) ≡ 16 * length ds
@@ -79,6 +79,6 @@ never_refused_spelling intdata wanted p (Field byte) fits amount (inr (inr first
 never_refused_spelling intdata wanted p Memory fits amount h = h
 
 -- bytes that spell a list are refused with no fault
-pub never_refused : (bytes : List ℕ) (intdata : Bool) (wanted : ℕ) (p : Params) (e : ParamFault) → Spells bytes intdata wanted p → IsRefused bytes intdata wanted e → ⊥
+pub never_refused : (bytes : List ℕ) (intdata : Bool) (wanted : ℕ) (p : Params) (e : ParamFault) → SpellsParams bytes intdata wanted p → IsRefused bytes intdata wanted e → ⊥
 never_refused bytes intdata wanted p e s =
     subst (λ (b : List ℕ). IsRefused b intdata wanted e → ⊥) (sym s.spelled) (never_refused_spelling intdata wanted p e s.fits s.amount)

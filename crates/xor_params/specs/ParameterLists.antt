@@ -34,7 +34,7 @@ data_due intdata wanted = if intdata then wanted else 0
 
 -- The bytes spell the list, for a command with this INTDATA bit that takes so many bytes of
 -- intermediate data where the bit is one.
-pub record Spells (bytes : List ℕ) (intdata : Bool) (wanted : ℕ) (p : Params) : Type 0 where
+pub record SpellsParams (bytes : List ℕ) (intdata : Bool) (wanted : ℕ) (p : Params) : Type 0 where
   pub spelled : bytes ≡ spelling p
   pub fits : Fits p
   pub amount : length p.intermediate ≡ data_due intdata wanted
@@ -115,4 +115,4 @@ IsRefused bytes intdata wanted Memory = ⊥
 abbrev pub IsFault : List ℕ → Bool → ℕ → ParamFault → Type 0
 IsFault bytes intdata wanted (Length want got) = IsRefused bytes intdata wanted (Length want got)
 IsFault bytes intdata wanted (Field byte) = IsRefused bytes intdata wanted (Field byte)
-IsFault bytes intdata wanted Memory = (p : Params) × Spells bytes intdata wanted p
+IsFault bytes intdata wanted Memory = (p : Params) × SpellsParams bytes intdata wanted p

@@ -2,7 +2,7 @@ ghost use Rattle.std.specs.Prelude.{◌≡◌, ◌<◌, ◌≤◌, ◌+◌, ◌*
 ghost use Rattle.std.specs.List.{flat_map, All};
 ghost use Rattle.xor_params.specs.declared.lists.Params.{Params};
 ghost use Rattle.xor_params.specs.declared.lists.ParamFault.TheVariants as param_fault;
-ghost use Rattle.xor_params.specs.ParameterLists.{descriptor, Spells, IsFault, IsShort, HasReserved, IsCrowded, HasHead, HasWrongLength, OffendsFirst, due, wrong_bits, announced_sources, announced_room};
+ghost use Rattle.xor_params.specs.ParameterLists.{descriptor, SpellsParams, IsFault, IsShort, HasReserved, IsCrowded, HasHead, HasWrongLength, OffendsFirst, due, wrong_bits, announced_sources, announced_room};
 
 use crate::faults::check;
 use crate::lists::{ParamFault, Params};
@@ -22,9 +22,9 @@ pub fn decode(
 ) -> Result<Params, ParamFault>
     requires { bytes_wanted ≤ 2 ^ 64 - 65540 }
     // What is read is spelt so.
-    ensures found { IfOk result (Spells bytes.now intdata bytes_wanted) }
+    ensures found { IfOk result (SpellsParams bytes.now intdata bytes_wanted) }
     // What is spelt so is read, unless memory runs out.
-    ensures only { (p : Params) → Spells bytes.now intdata bytes_wanted p → MatchResult result (λ q. q ≡ p) (λ e. e ≡ param_fault.Memory) }
+    ensures only { (p : Params) → SpellsParams bytes.now intdata bytes_wanted p → MatchResult result (λ q. q ≡ p) (λ e. e ≡ param_fault.Memory) }
     // What an answered fault says of the bytes.
     ensures fault { IfErr result (IsFault bytes.now intdata bytes_wanted) }
     // When each fault is answered.

@@ -1,7 +1,7 @@
 ghost use Rattle.std.specs.Prelude.{◌≡◌, ◌<◌, ◌≤◌, ◌^◌, ◌++◌, ℕ, Bool, OnOk, IfOk, length};
 ghost use Rattle.std.specs.List.{flat_map, All};
 ghost use Rattle.xor_params.specs.declared.lists.Params.{Params};
-ghost use Rattle.xor_params.specs.ParameterLists.{descriptor, room, data_due, spelling, Fits, Spells};
+ghost use Rattle.xor_params.specs.ParameterLists.{descriptor, room, data_due, spelling, Fits, SpellsParams};
 
 use crate::lists::Params;
 use crate::sources::Descriptor;
@@ -16,7 +16,7 @@ pub fn encode(alloc: Global, params: &Params) -> Result<Bytes, Memory>
     requires short { room params.now ≤ 65535 }
     ensures bytes { IfOk result (λ bytes. bytes ≡ spelling params.now) }
     // So it is read again, for a command that takes as much intermediate data.
-    ensures again { (intdata : Bool) (wanted : ℕ) → length params.now.intermediate ≡ data_due intdata wanted → IfOk result (λ bytes. Spells bytes intdata wanted params.now) }
+    ensures again { (intdata : Bool) (wanted : ℕ) → length params.now.intermediate ≡ data_due intdata wanted → IfOk result (λ bytes. SpellsParams bytes intdata wanted params.now) }
 {
     let room = 16 * params.sources.len() + params.pad.len();
     let [high, low] = (room as u16).to_be_bytes();

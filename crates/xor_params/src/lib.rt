@@ -13,6 +13,3 @@ pub use decoding::decode;
 pub use encoding::{encode, spelling_law};
 pub use lists::{ParamFault, Params};
 pub use sources::{Descriptor, Descriptors};
-
-#[cfg(test)]
-mod tests;

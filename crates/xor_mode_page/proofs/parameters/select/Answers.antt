@@ -1,5 +1,5 @@
 use Rattle.std.proofs.Common.{◌<◌, ℕ, List, refl, sym, subst, arith}
-use Rattle.xor_mode_page.specs.Pages.{IsFine, fixed_bits, fixed_values, Spells}
+use Rattle.xor_mode_page.specs.Pages.{IsFine, fixed_bits, fixed_values, SpellsPage}
 use Rattle.xor_mode_page.proofs.ListLemmas.{page_is_fine, sets_page, leaves_page, never_list_fault, selects_one}
 use Rattle.xor_mode_page.proofs.parameters.select.Goals as goal
 
@@ -12,7 +12,7 @@ pub returns-in-Some-clause-ok : goal.returns-in-Some-clause-ok
 returns-in-Some-clause-ok c =
     let found = c.in-Some.ensures in
     sets_page c.args.list.now c.args.page.now c.fields_of.result found.0 (λ i. omega (arith, c.type_inv.list i)) c.in_ok-check.ensures.fine
-    (subst (λ (page : List ℕ). Spells page c.fields_of.result) found.1 c.fields_of.ensures)
+    (subst (λ (page : List ℕ). SpellsPage page c.fields_of.result) found.1 c.fields_of.ensures)
 
 pub returns-in_default-clause-ok : goal.returns-in_default-clause-ok
 returns-in_default-clause-ok c =
@@ -25,5 +25,5 @@ pub returns-in-Some-clause-only : goal.returns-in-Some-clause-only
 returns-in-Some-clause-only c listed s =
     let found = c.in-Some.ensures in
     let made = sets_page c.args.list.now c.args.page.now c.fields_of.result found.0 (λ i. omega (arith, c.type_inv.list i)) c.in_ok-check.ensures.fine
-    (subst (λ (page : List ℕ). Spells page c.fields_of.result) found.1 c.fields_of.ensures) in
+    (subst (λ (page : List ℕ). SpellsPage page c.fields_of.result) found.1 c.fields_of.ensures) in
     (refl, selects_one c.args.list.now c.args.page.now c.fields_of.result listed made s)
