@@ -1,3 +1,11 @@
 pub mod OwnerSteps
 pub mod OwnerLaws
 pub mod HeldLists
+pub mod SlotLaws
+pub mod TableSteps
+pub mod RunLaws
+pub mod TakenRows
+pub mod TableLaws
+pub mod HeldViews
+pub mod Cuts
+pub mod Wiping

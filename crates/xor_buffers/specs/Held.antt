@@ -19,6 +19,17 @@ abbrev pub take_rows : ℕ → ℕ → ℕ → List HeldBlocks → List HeldBloc
 take_rows block row len [] = []
 take_rows block row len (h ∷ hs) = if holds_rows block row len h then rest_of block row len h ++ hs else h ∷ take_rows block row len hs
 
+-- the owner of the first held blocks that contain rows
+abbrev pub holder_of : ℕ → ℕ → ℕ → List HeldBlocks → Option ℕ
+holder_of block row len [] = None
+holder_of block row len (h ∷ hs) = if holds_rows block row len h then Some h.owner else holder_of block row len hs
+
+-- the owner of the first held blocks that have one of so many rows from a row on
+abbrev pub overlap_of : ℕ → ℕ → ℕ → List HeldBlocks → Option ℕ
+overlap_of block row count [] = None
+overlap_of block row count (h ∷ hs) =
+    if nat_lt h.row (row + count) && nat_lt row (h.row + length h.bytes / block) then Some h.owner else overlap_of block row count hs
+
 -- the rows as command c holds them, if it holds them in one piece
 abbrev pub rows_held : ℕ → ℕ → ℕ → ℕ → List HeldBlocks → Option (List ℕ)
 rows_held block c row len [] = None

@@ -1,2 +1,5 @@
 pub mod Held
+pub mod Holding
+pub mod Runs
+pub mod Slots
 pub mod Steps
