@@ -1,1 +1,10 @@
+pub mod AreaLists
+pub mod AreaRows
 pub mod ModeLaws
+pub mod PieceCode
+pub mod PieceLaws
+pub mod PieceNumbers
+pub mod PieceWalks
+pub mod PlaceLaws
+pub mod PlaceRuns
+pub mod StripeLaws
