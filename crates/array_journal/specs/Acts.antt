@@ -5,6 +5,8 @@ use Rattle.stripe_layout.specs.declared.mode.Mode.TheVariants.{Supervised, Third
 use Rattle.stripe_layout.specs.Modes.{takes_delta, target_gathers}
 use Rattle.sbc_cdbs.specs.declared.commands.Command.{Command}
 use Rattle.sbc_cdbs.specs.declared.commands.Command.TheVariants as sbc
+use Rattle.array_journal.specs.declared.act.Act.{Act}
+use Rattle.array_journal.specs.declared.act.Act.TheVariants.{Fetches, Puts, Diffs, Takes, Folds, Holds}
 use Rattle.array_journal.specs.declared.event.Event.{Event}
 use Rattle.array_journal.specs.declared.event.Event.TheVariants.{Fetch, Put, Diff, Take, Fold, Hold, Shut}
 use Rattle.array_journal.specs.declared.setting.Setting.{Setting}
@@ -12,15 +14,6 @@ use Rattle.array_journal.specs.declared.task.Kind.{Kind}
 use Rattle.array_journal.specs.declared.task.Kind.TheVariants.{Read, Update, DataOnly, DegradedRead, DegradedWrite, Rebuild, Resync}
 use Rattle.array_journal.specs.declared.task.Task.{Task}
 use Rattle.array_journal.specs.Lists.{numbers}
-
--- the six acts
-pub data Act : Type 0 where
-  Fetches : Act
-  Puts : Act
-  Diffs : Act
-  Takes : Act
-  Folds : Act
-  Holds : Act
 
 -- the target that gathers for a degraded read, where a target does: the least one but the missing one
 abbrev pub gatherer : Task → ℕ

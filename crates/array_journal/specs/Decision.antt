@@ -2,10 +2,13 @@
 use Rattle.std.specs.Prelude.{◌==◌, ◌&&◌, nat_le, not, ℕ, ◌+◌, Bool, true, false, List, [], ◌∷◌, Option, Some, None, length, if◌then◌else◌}
 use Rattle.stripe_layout.specs.Layout.{parity_of}
 use Rattle.stripe_layout.specs.Modes.{update_needs_room, target_gathers}
+use Rattle.array_journal.specs.declared.decision.Decision.{Decision}
+use Rattle.array_journal.specs.declared.decision.Decision.TheVariants.{Opens, Refuses}
+use Rattle.array_journal.specs.declared.decision.Want.{Want}
+use Rattle.array_journal.specs.declared.decision.Want.TheVariants.{Read as WantsRead, Write as WantsWrite, Rebuild as WantsRebuild, Resync as WantsResync}
 use Rattle.array_journal.specs.declared.entry.Entry.{Entry}
 use Rattle.array_journal.specs.declared.event.Event.{Event}
 use Rattle.array_journal.specs.declared.event.Event.TheVariants.{Open}
-use Rattle.array_journal.specs.declared.event.Why.{Why}
 use Rattle.array_journal.specs.declared.event.Why.TheVariants.{Medium, NotReady, Unfitted, Present, Listed, Second, Clean, Absent}
 use Rattle.array_journal.specs.declared.setting.Setting.{Setting}
 use Rattle.array_journal.specs.declared.task.Kind.{Kind}
@@ -16,13 +19,7 @@ use Rattle.array_journal.specs.Commands.{is_open, tasks_conflict}
 use Rattle.array_journal.specs.Listed.{is_listed}
 use Rattle.array_journal.specs.Lives.{is_missing, is_unfitted}
 
--- what a piece wants: to read or write blocks, to rebuild a unit, to make parity anew
-pub data Want : Type 0 where
-  WantsRead : Want
-  WantsWrite : Want
-  WantsRebuild : Want
-  WantsResync : Want
-
+-- what the commands of a kind are opened for
 abbrev pub want_of : Kind → Want
 want_of Read = WantsRead
 want_of DegradedRead = WantsRead
@@ -31,10 +28,6 @@ want_of DataOnly = WantsWrite
 want_of DegradedWrite = WantsWrite
 want_of Rebuild = WantsRebuild
 want_of Resync = WantsResync
-
-pub data Decision : Type 0 where
-  Opens : Kind → Decision
-  Refuses : Why → Decision
 
 -- how many units of a stripe are missing
 abbrev pub missing_count : Setting → ℕ → List Entry → ℕ

@@ -10,7 +10,9 @@ use Rattle.array_journal.specs.declared.setting.Setting.{Setting}
 use Rattle.blocks_core.specs.Lists.{block_at}
 use Rattle.array_journal.specs.Entries.{name_of, same_at}
 use Rattle.array_journal.specs.Media.{rows_on}
-use Rattle.array_journal.specs.Acts.{Act, Folds, is_act}
+use Rattle.array_journal.specs.declared.act.Act.{Act}
+use Rattle.array_journal.specs.declared.act.Act.TheVariants.{Folds}
+use Rattle.array_journal.specs.Acts.{is_act}
 
 -- the delta of bytes written to target i from a row on, over the entries before: what stood there, exclusive-or
 -- the new bytes

@@ -3,7 +3,7 @@
 use Rattle.std.specs.Prelude.{ℕ, true, false, List, [], ◌∷◌, reverse, Option, Some, None}
 use Rattle.stripe_layout.specs.declared.mode.Mode.TheVariants.{Supervised}
 use Rattle.sbc_cdbs.specs.declared.descriptor.Cdb.{Cdb}
-use Rattle.sbc_cdbs.specs.Cdbs.{Spells, cdb_bytes}
+use Rattle.sbc_cdbs.specs.Cdbs.{SpellsCdb, cdb_bytes}
 use Rattle.array_journal.specs.declared.at.At.{At}
 use Rattle.array_journal.specs.declared.entry.Entry.{Entry}
 use Rattle.array_journal.specs.declared.event.Event.{Event}
@@ -12,17 +12,19 @@ use Rattle.array_journal.specs.declared.setting.Setting.{Setting}
 use Rattle.array_journal.specs.declared.task.Kind.{Kind}
 use Rattle.array_journal.specs.declared.task.Kind.TheVariants.{Read, Update, DegradedRead, Rebuild}
 use Rattle.array_journal.specs.declared.task.Task.{Task}
-use Rattle.array_journal.specs.Acts.{Act, Fetches, Diffs, Takes, Folds, cdb_of}
+use Rattle.array_journal.specs.declared.act.Act.{Act}
+use Rattle.array_journal.specs.declared.act.Act.TheVariants.{Fetches, Diffs, Takes, Folds}
+use Rattle.array_journal.specs.Acts.{cdb_of}
 use Rattle.array_journal.specs.May.{May}
 use Rattle.array_journal.specs.Run.{Run}
 
 -- three targets, a unit of one block of eight bytes, two stripes, a buffer of four blocks
 abbrev pub small : Setting
-small = record { geometry = record { targets = 3; block = 8; unit = 1; stripes = 2 }; buffer = 4; mode = Supervised }
+small = record { geometry = record { targets = 3; block = 8; areas = record { unit = 1; stripes = 2 } ∷ [] }; buffer = 4; mode = Supervised }
 
 -- three targets, a unit of one block of one byte, one stripe, a buffer of two blocks
 abbrev pub tiny : Setting
-tiny = record { geometry = record { targets = 3; block = 1; unit = 1; stripes = 1 }; buffer = 2; mode = Supervised }
+tiny = record { geometry = record { targets = 3; block = 1; areas = record { unit = 1; stripes = 1 } ∷ [] }; buffer = 2; mode = Supervised }
 
 abbrev pub at : ℕ → ℕ → At
 at stamp lock = record { stamp = stamp; lock = lock }
@@ -37,7 +39,7 @@ task_on call kind target bytes =
 
 -- the CDB spells an act of the task that rests on so many fetches
 abbrev pub SpellsAct : Setting → Task → ℕ → Act → Cdb → Type 0
-SpellsAct s task sources act cdb = Spells (cdb_bytes cdb) (cdb_of s task sources act)
+SpellsAct s task sources act cdb = SpellsCdb (cdb_bytes cdb) (cdb_of s task sources act)
 
 abbrev pub block : List ℕ
 block = 1 ∷ 2 ∷ 3 ∷ 4 ∷ 5 ∷ 6 ∷ 7 ∷ 8 ∷ []

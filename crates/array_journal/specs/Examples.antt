@@ -10,7 +10,7 @@ use Rattle.array_journal.specs.declared.event.Why.TheVariants.{NotReady}
 use Rattle.array_journal.specs.declared.setting.Setting.{Setting}
 use Rattle.array_journal.specs.declared.task.Kind.TheVariants.{DataOnly, DegradedRead, Rebuild}
 use Rattle.array_journal.specs.declared.task.Task.{Task}
-use Rattle.array_journal.specs.Acts.{Fetches, Puts, Diffs, Takes, Holds}
+use Rattle.array_journal.specs.declared.act.Act.TheVariants.{Fetches, Puts, Diffs, Takes, Holds}
 use Rattle.array_journal.specs.Run.{Run}
 use Rattle.array_journal.specs.ExampleJournals.{tiny, at, entry, task_on, SpellsAct, old_task, two_lost}
 

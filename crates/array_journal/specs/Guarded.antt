@@ -9,7 +9,8 @@ use Rattle.array_journal.specs.declared.setting.Setting.{Setting}
 use Rattle.array_journal.specs.declared.task.Task.{Task}
 use Rattle.array_journal.specs.Entries.{entry_at}
 use Rattle.array_journal.specs.Commands.{ends_command, is_open, task_of}
-use Rattle.array_journal.specs.Acts.{Act, is_act}
+use Rattle.array_journal.specs.declared.act.Act.{Act}
+use Rattle.array_journal.specs.Acts.{is_act}
 use Rattle.array_journal.specs.Lives.{is_gone, is_absent, is_missing}
 use Rattle.array_journal.specs.Run.{Run}
 use Rattle.array_journal.specs.Laws.{RunsAlone, entries_before}

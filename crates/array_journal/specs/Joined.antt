@@ -5,7 +5,7 @@ use Rattle.sbc_cdbs.specs.declared.descriptor.Cdb.{Cdb}
 use Rattle.array_journal.specs.declared.entry.Entry.{Entry}
 use Rattle.array_journal.specs.declared.event.Event.TheVariants.{Diff, Gone, Open}
 use Rattle.array_journal.specs.declared.setting.Setting.{Setting}
-use Rattle.array_journal.specs.Acts.{Diffs}
+use Rattle.array_journal.specs.declared.act.Act.TheVariants.{Diffs}
 use Rattle.array_journal.specs.May.{May}
 use Rattle.array_journal.specs.Merge.{Rises}
 use Rattle.array_journal.specs.Run.{Run}

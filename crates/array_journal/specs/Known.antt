@@ -13,7 +13,8 @@ use Rattle.array_journal.specs.declared.task.Task.{Task}
 use Rattle.blocks_core.specs.Lists.{block_at}
 use Rattle.array_journal.specs.Entries.{entry_at}
 use Rattle.array_journal.specs.Commands.{task_of}
-use Rattle.array_journal.specs.Acts.{Fetches, is_act}
+use Rattle.array_journal.specs.declared.act.Act.TheVariants.{Fetches}
+use Rattle.array_journal.specs.Acts.{is_act}
 use Rattle.array_journal.specs.Deltas.{Delta, outstanding}
 use Rattle.array_journal.specs.Host.{unit_at}
 use Rattle.array_journal.specs.May.{passes, bytes_named}

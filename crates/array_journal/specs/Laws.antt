@@ -11,7 +11,9 @@ use Rattle.array_journal.specs.declared.setting.Setting.{Setting}
 use Rattle.array_journal.specs.declared.task.Task.{Task}
 use Rattle.array_journal.specs.Entries.{name_of, same_at, at_lt, entry_at, some_at, count_at, count_before}
 use Rattle.array_journal.specs.Commands.{ends_command, open_count, is_open, task_of, is_shared}
-use Rattle.array_journal.specs.Acts.{Act, Diffs, Takes, is_act, shuts_command}
+use Rattle.array_journal.specs.declared.act.Act.{Act}
+use Rattle.array_journal.specs.declared.act.Act.TheVariants.{Diffs, Takes}
+use Rattle.array_journal.specs.Acts.{is_act, shuts_command}
 use Rattle.xor_buffers.specs.declared.held.HeldBlocks.{HeldBlocks}
 use Rattle.xor_buffers.specs.Held.{has_owner}
 use Rattle.array_journal.specs.Media.{held, media, drops}

@@ -2,6 +2,7 @@ pub mod Lists
 pub mod Entries
 pub mod Commands
 pub mod Acts
+pub mod ActEvents
 pub mod Media
 pub mod Lives
 pub mod Listed

@@ -1,6 +1,7 @@
 -- Stripes that are listed dirty: an update lost its delta, so that parity can't be trusted.
 use Rattle.std.specs.Prelude.{◌==◌, ◌&&◌, not, ℕ, Bool, true, false, List, [], ◌∷◌, Option, Some, None, is_some, if◌then◌else◌}
 use Rattle.std.specs.List.{filter_map}
+use Rattle.stripe_layout.specs.Layout.{stripes_of}
 use Rattle.array_journal.specs.declared.entry.Entry.{Entry}
 use Rattle.array_journal.specs.declared.event.Event.{Event}
 use Rattle.array_journal.specs.declared.event.Event.TheVariants.{Close, Spoil}
@@ -54,4 +55,4 @@ dirty_stripe stripe None = None
 dirty_stripe stripe (Some command) = Some (record { stripe = stripe; command = command })
 
 abbrev pub dirty : Setting → List Entry → List Dirty
-dirty s past = filter_map (λ stripe. dirty_stripe stripe (listed_for stripe past)) (numbers 0 s.geometry.stripes)
+dirty s past = filter_map (λ stripe. dirty_stripe stripe (listed_for stripe past)) (numbers 0 (stripes_of s.geometry))

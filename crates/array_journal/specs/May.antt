@@ -1,13 +1,13 @@
 -- Which entry may follow a journal. Each condition is about earlier entries of the entry's own lock, or about an
 -- entry that it names; past has the newest entry first.
 use Rattle.std.specs.List.{list_any}
-use Rattle.std.specs.Prelude.{◌≡◌, ◌==◌, ◌&&◌, ◌||◌, ◌<◌, ◌≤◌, ◌⊎◌, nat_lt, nat_le, not, ℕ, zero, suc, ◌+◌, ◌*◌, ◌≢◌, Bool, true, false, List, [], ◌∷◌, length, map, Option, Some, None, if◌then◌else◌}
+use Rattle.std.specs.Prelude.{◌≡◌, ◌==◌, ◌&&◌, ◌||◌, ◌<◌, ◌≤◌, ◌⊎◌, nat_lt, nat_le, not, ℕ, zero, suc, ◌+◌, ◌≢◌, Bool, true, false, List, [], ◌∷◌, length, map, Option, Some, None, if◌then◌else◌}
 use Rattle.blocks_core.specs.Xor.{xor, xor_all}
 use Rattle.stripe_layout.specs.declared.mode.Mode.{Mode}
-use Rattle.stripe_layout.specs.Layout.{parity_of}
+use Rattle.stripe_layout.specs.Layout.{parity_of, stripes_of, first_row, unit_rows}
 use Rattle.stripe_layout.specs.Modes.{sends_delta, hands_delta_back, target_gathers}
 use Rattle.sbc_cdbs.specs.declared.descriptor.Cdb.{Cdb}
-use Rattle.sbc_cdbs.specs.Cdbs.{Spells, cdb_bytes}
+use Rattle.sbc_cdbs.specs.Cdbs.{SpellsCdb, cdb_bytes}
 use Rattle.array_journal.specs.declared.at.At.{At}
 use Rattle.array_journal.specs.declared.entry.Entry.{Entry}
 use Rattle.array_journal.specs.declared.event.Event.{Event}
@@ -20,12 +20,15 @@ use Rattle.array_journal.specs.declared.task.Kind.TheVariants.{Read, Update, Dat
 use Rattle.array_journal.specs.declared.task.Task.{Task}
 use Rattle.array_journal.specs.Entries.{at_lt, entry_at, some_at, count_before, stamps_below}
 use Rattle.array_journal.specs.Commands.{open_count, is_open, task_of}
-use Rattle.array_journal.specs.Acts.{Act, Fetches, Puts, Diffs, Takes, Folds, Holds, has_act, is_target, targets_that, task_bytes, cdb_of, is_act, shuts_command, changes_medium}
+use Rattle.array_journal.specs.declared.act.Act.{Act}
+use Rattle.array_journal.specs.declared.act.Act.TheVariants.{Fetches, Puts, Diffs, Takes, Folds, Holds}
+use Rattle.array_journal.specs.Acts.{has_act, is_target, targets_that, task_bytes, cdb_of, is_act, shuts_command, changes_medium}
 use Rattle.xor_buffers.specs.Held.{rows_held, owners_of}
 use Rattle.array_journal.specs.Media.{rows_on, held, drops}
 use Rattle.array_journal.specs.Lives.{is_gone, loss_of, life_of, swap_count, is_swap_of, is_unfitted}
 use Rattle.array_journal.specs.Deltas.{delta_at}
-use Rattle.array_journal.specs.Decision.{want_of, Opens, decision, opens_conflict, has_room}
+use Rattle.array_journal.specs.declared.decision.Decision.TheVariants.{Opens}
+use Rattle.array_journal.specs.Decision.{want_of, decision, opens_conflict, has_room}
 
 -- an entry of this name stands with a smaller stamp, and says this
 abbrev pub StandsBefore : List Entry → ℕ → At → Event → Type 0
@@ -87,7 +90,7 @@ pub record MayAct (s : Setting) (past : List Entry) (stamp i c : ℕ) (opened : 
   pub same_life : freshes_after i opened past ≡ false
   pub at_row : row ≡ task.row
   pub whole : len ≡ task_bytes s task
-  pub spelt : Spells (cdb_bytes cdb) (cdb_of s task sources act)
+  pub spelt : SpellsCdb (cdb_bytes cdb) (cdb_of s task sources act)
 
 -- some task is that of the command, and it may act so
 abbrev pub SomeTask : (Task → Type 0) → Type 0
@@ -187,18 +190,18 @@ IsTaskOfKind s task DegradedRead = (task.target ≢ task.parity) × (task.bytes 
 IsTaskOfKind s task Update = (task.target ≢ task.parity) × (length task.bytes ≡ task_bytes s task)
 IsTaskOfKind s task DataOnly = (task.target ≢ task.parity) × (length task.bytes ≡ task_bytes s task)
 IsTaskOfKind s task DegradedWrite = (task.target ≢ task.parity) × (length task.bytes ≡ task_bytes s task)
-IsTaskOfKind s task Rebuild = (task.row ≡ task.stripe * s.geometry.unit) × (task.count ≡ s.geometry.unit) × (task.bytes ≡ [])
+IsTaskOfKind s task Rebuild = (task.row ≡ first_row s.geometry task.stripe) × (task.count ≡ unit_rows s.geometry task.stripe) × (task.bytes ≡ [])
 IsTaskOfKind s task Resync =
-    (task.row ≡ task.stripe * s.geometry.unit) × (task.count ≡ s.geometry.unit) × (task.bytes ≡ []) × (task.target ≡ task.parity)
+    (task.row ≡ first_row s.geometry task.stripe) × (task.count ≡ unit_rows s.geometry task.stripe) × (task.bytes ≡ []) × (task.target ≡ task.parity)
 
 -- what is true of each task: its rows are rows of its stripe
 pub record IsTask (s : Setting) (task : Task) : Type 0 where
-  pub in_array : task.stripe < s.geometry.stripes
+  pub in_array : task.stripe < stripes_of s.geometry
   pub parity : task.parity ≡ parity_of s.geometry task.stripe
   pub target : task.target < s.geometry.targets
   pub some_rows : 1 ≤ task.count
-  pub from_stripe : task.stripe * s.geometry.unit ≤ task.row
-  pub to_stripe : task.row + task.count ≤ (task.stripe + 1) * s.geometry.unit
+  pub from_stripe : first_row s.geometry task.stripe ≤ task.row
+  pub to_stripe : task.row + task.count ≤ first_row s.geometry task.stripe + unit_rows s.geometry task.stripe
   pub by_kind : IsTaskOfKind s task task.kind
 
 -- Open: commands are numbered as they are opened; the kind is what the book decides; nothing open stands in the

@@ -7,7 +7,7 @@ use Rattle.std.specs.Prelude.{◌≡◌, ◌&&◌, ◌||◌, ◌<◌, ◌⊎◌,
 use Rattle.blocks_core.specs.Xor.{xor, xor_all}
 use Rattle.stripe_layout.specs.Modes.{sends_delta, hands_delta_back}
 use Rattle.sbc_cdbs.specs.declared.descriptor.Cdb.{Cdb}
-use Rattle.sbc_cdbs.specs.Cdbs.{Spells, cdb_bytes}
+use Rattle.sbc_cdbs.specs.Cdbs.{SpellsCdb, cdb_bytes}
 use Rattle.array_journal.specs.declared.at.At.{At}
 use Rattle.array_journal.specs.declared.entry.Entry.{Entry}
 use Rattle.array_journal.specs.declared.event.Event.{Event}
@@ -18,11 +18,14 @@ use Rattle.array_journal.specs.declared.task.Kind.TheVariants.{Update, DegradedR
 use Rattle.array_journal.specs.declared.task.Task.{Task}
 use Rattle.array_journal.specs.Entries.{entry_at, some_at, count_before, stamps_below}
 use Rattle.array_journal.specs.Commands.{open_count, task_of}
-use Rattle.array_journal.specs.Acts.{Act, Fetches, Puts, Diffs, Takes, Folds, Holds, has_act, is_target, targets_that, task_bytes, cdb_of, is_act, shuts_command, changes_medium}
+use Rattle.array_journal.specs.declared.act.Act.{Act}
+use Rattle.array_journal.specs.declared.act.Act.TheVariants.{Fetches, Puts, Diffs, Takes, Folds, Holds}
+use Rattle.array_journal.specs.Acts.{has_act, is_target, targets_that, task_bytes, cdb_of, is_act, shuts_command, changes_medium}
 use Rattle.xor_buffers.specs.Held.{rows_held}
 use Rattle.array_journal.specs.Media.{rows_on, held, drops}
 use Rattle.array_journal.specs.Lives.{is_gone, is_loss, loss_of, life_of, swap_count, is_swap_of, is_unfitted}
-use Rattle.array_journal.specs.Decision.{want_of, Opens, decision, opens_conflict, has_room}
+use Rattle.array_journal.specs.declared.decision.Decision.TheVariants.{Opens}
+use Rattle.array_journal.specs.Decision.{want_of, decision, opens_conflict, has_room}
 use Rattle.array_journal.specs.May.{May, passes, bytes_named, fetched_targets, freshes_after, SomeTask, IsFoldSource, is_read_task, MayGone, MayWipe, IsTask, Rise, is_own_act, is_named, AllNamed, is_loss_in, closed_bytes, shuts_idle, is_wipe_of, is_dropped_diff, discards, IsOpenWith, MaySwap}
 
 -- an entry of this name stands, and passes
@@ -51,7 +54,7 @@ pub record AskedAct (s : Setting) (past : List Entry) (i c : ℕ) (opened : At) 
   pub once : some_at (i + 1) (is_act act c) past ≡ false
   pub at_row : row ≡ task.row
   pub whole : len ≡ task_bytes s task
-  pub spelt : Spells (cdb_bytes cdb) (cdb_of s task sources act)
+  pub spelt : SpellsCdb (cdb_bytes cdb) (cdb_of s task sources act)
 
 -- found at each act: the disk works, and is the one that was there, or due, at the opening
 pub record FoundAct (past : List Entry) (i : ℕ) (opened : At) : Type 0 where

@@ -8,7 +8,7 @@ use Rattle.array_journal.specs.declared.entry.Entry.{Entry}
 use Rattle.array_journal.specs.declared.event.Event.TheVariants.{Diff, Take, Fold, Wiped, Open, Close}
 use Rattle.array_journal.specs.declared.event.What.TheVariants.{Buffers}
 use Rattle.array_journal.specs.declared.setting.Setting.{Setting}
-use Rattle.array_journal.specs.Acts.{Diffs, Folds}
+use Rattle.array_journal.specs.declared.act.Act.TheVariants.{Diffs, Folds}
 use Rattle.array_journal.specs.Entries.{entry_at}
 use Rattle.array_journal.specs.Media.{held}
 use Rattle.array_journal.specs.May.{May}

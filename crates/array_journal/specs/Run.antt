@@ -1,9 +1,9 @@
 -- Runs of the array, and what holds of them.
-use Rattle.std.specs.Prelude.{◌≡◌, ◌<◌, ◌≤◌, ◌+◌, ◌-◌, ◌*◌, ℕ, true, false, List, [], ◌∷◌, map, reverse, take, None}
+use Rattle.std.specs.Prelude.{◌≡◌, ◌<◌, ◌≤◌, ◌-◌, ℕ, true, false, List, [], ◌∷◌, map, reverse, take, None}
 use Rattle.std.specs.List.{AllByRecursion}
 use Rattle.blocks_core.specs.Xor.{xor_all}
 use Rattle.stripe_layout.specs.declared.geometry.Geometry.{Geometry}
-use Rattle.stripe_layout.specs.Layout.{IsArray, parity_of, lba_at, target_of_unit}
+use Rattle.stripe_layout.specs.Layout.{IsArray, parity_of, lba_at, target_of_unit, IsRowOf, greatest_unit}
 use Rattle.array_journal.specs.declared.entry.Entry.{Entry}
 use Rattle.array_journal.specs.declared.setting.Setting.{Setting}
 use Rattle.blocks_core.specs.Lists.{block_at}
@@ -17,10 +17,10 @@ use Rattle.array_journal.specs.Deltas.{Delta, outstanding}
 use Rattle.array_journal.specs.Host.{host, plain, Legal}
 use Rattle.array_journal.specs.May.{May}
 
--- the ranges of a setting: the array's, and a buffer of at least a unit and at most 65536 blocks
+-- the ranges of a setting: the array's, and a buffer of at least the greatest unit and at most 65536 blocks
 pub record IsSetting (s : Setting) : Type 0 where
   pub array : IsArray s.geometry
-  pub least_buffer : s.geometry.unit ≤ s.buffer
+  pub least_buffer : greatest_unit s.geometry ≤ s.buffer
   pub most_buffer : s.buffer ≤ 65536
 
 -- an entry's name comes after that of the newest entry
@@ -51,12 +51,6 @@ parity_block s past stripe row = block_at s.geometry.block (media s (parity_of s
 
 abbrev pub delta_blocks : List Delta → List (List ℕ)
 delta_blocks deltas = map (λ d. d.block) deltas
-
--- a row is one of a stripe's
-pub record IsRowOf (g : Geometry) (stripe row : ℕ) : Type 0 where
-  pub in_array : stripe < g.stripes
-  pub first : stripe * g.unit ≤ row
-  pub last : row < (stripe + 1) * g.unit
 
 -- On a row of a stripe that isn't listed and whose parity unit isn't absent, data and parity together are the
 -- deltas that parity doesn't have yet, each of an open command.

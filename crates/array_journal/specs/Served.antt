@@ -2,7 +2,7 @@
 use Rattle.std.specs.List.{AllByRecursion}
 use Rattle.std.specs.Prelude.{◌≡◌, ◌&&◌, ◌≤◌, ◌+◌, ℕ, Bool, true, false, List, length, Some}
 use Rattle.stripe_layout.specs.declared.mode.Mode.{Mode}
-use Rattle.stripe_layout.specs.Layout.{rows_of}
+use Rattle.stripe_layout.specs.Layout.{rows_of, unit_rows}
 use Rattle.stripe_layout.specs.Modes.{takes_delta}
 use Rattle.sbc_cdbs.specs.declared.descriptor.Cdb.{Cdb}
 use Rattle.array_journal.specs.declared.at.At.{At}
@@ -12,7 +12,9 @@ use Rattle.array_journal.specs.declared.setting.Setting.{Setting}
 use Rattle.array_journal.specs.declared.task.Task.{Task}
 use Rattle.array_journal.specs.Entries.{entry_at, some_at}
 use Rattle.array_journal.specs.Commands.{is_open}
-use Rattle.array_journal.specs.Acts.{Act, Fetches, Puts, Diffs, Takes, Folds, Holds, has_act, is_act, task_bytes}
+use Rattle.array_journal.specs.declared.act.Act.{Act}
+use Rattle.array_journal.specs.declared.act.Act.TheVariants.{Fetches, Puts, Diffs, Takes, Folds, Holds}
+use Rattle.array_journal.specs.Acts.{has_act, is_act, task_bytes}
 use Rattle.xor_buffers.specs.declared.held.HeldBlocks.{HeldBlocks}
 use Rattle.xor_buffers.specs.Held.{rows_held, held_blocks}
 use Rattle.array_journal.specs.Media.{held}
@@ -48,7 +50,7 @@ IsApartFrom s task h = (r : ℕ) → (covers s.geometry.block task.row (task_byt
 pub record CanBeMade (s : Setting) (past : List Entry) (i : ℕ) (opened : At) (task : Task) (act : Act) : Type 0 where
   pub same_life : freshes_after i opened past ≡ false
   pub in_range : task.row + task.count ≤ rows_of s.geometry
-  pub short : task.count ≤ s.geometry.unit
+  pub short : task.count ≤ unit_rows s.geometry task.stripe
   pub unheld : fills_buffer s.mode act ≡ true → AllByRecursion (IsApartFrom s task) (held s i past)
   pub room : fills_buffer s.mode act ≡ true → held_blocks s.geometry.block (held s i past) + task.count ≤ s.buffer
 

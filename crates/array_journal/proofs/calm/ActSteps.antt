@@ -4,7 +4,7 @@ use Rattle.std.proofs.Common.{refl, ap, sym, ◌∙◌, arith, subst}
 use Rattle.std.proofs.lemmas.Bool.{eq-eqb, eqb-true, lt-ltb, and_from, and_right, or_left, or_right, and_parts, both_ways}
 use Rattle.stripe_layout.specs.declared.mode.Mode.{Mode}
 use Rattle.sbc_cdbs.specs.declared.descriptor.Cdb.{Cdb}
-use Rattle.sbc_cdbs.specs.Cdbs.{Spells, cdb_bytes}
+use Rattle.sbc_cdbs.specs.Cdbs.{SpellsCdb, cdb_bytes}
 use Rattle.array_journal.specs.declared.at.At.{At}
 use Rattle.array_journal.specs.declared.entry.Entry.{Entry}
 use Rattle.array_journal.specs.declared.event.Event.{Event}
@@ -13,7 +13,9 @@ use Rattle.array_journal.specs.declared.setting.Setting.{Setting}
 use Rattle.array_journal.specs.declared.task.Kind.{Kind}
 use Rattle.array_journal.specs.declared.task.Task.{Task}
 use Rattle.array_journal.specs.Entries.{name_of, at_lt, entry_at, some_at}
-use Rattle.array_journal.specs.Acts.{Act, Fetches, Puts, Diffs, Takes, Folds, Holds, acts_at, has_act, task_bytes, cdb_of, is_act}
+use Rattle.array_journal.specs.declared.act.Act.{Act}
+use Rattle.array_journal.specs.declared.act.Act.TheVariants.{Fetches, Puts, Diffs, Takes, Folds, Holds}
+use Rattle.array_journal.specs.Acts.{acts_at, has_act, task_bytes, cdb_of, is_act}
 use Rattle.array_journal.specs.May.{passes, Names, MayAct, MayAt, MayTarget, is_own_act, is_named, AllNamed}
 use Rattle.array_journal.specs.Run.{ComesLater}
 use Rattle.array_journal.specs.Calm.{IsCalmEvent}
@@ -35,7 +37,7 @@ later-calm e t c (newest ∷ past) h p = stamp_lt (name_of newest) (name_of e) (
 pub act-calm : (s : Setting) (past : List Entry) (stamp i c t d : ℕ) (opened : At) (cdb : Cdb) (len : ℕ) (task : Task) (act : Act) →
     AllCalm t d past → entry_at opened past ≡ Some (Open c task) → opened.stamp < stamp → opened.lock ≡ 0 →
     has_act s act task i ≡ true → some_at (i + 1) (is_act act c) past ≡ false → len ≡ task_bytes s task →
-    Spells (cdb_bytes cdb) (cdb_of s task 0 act) → MayAct s past stamp i c opened cdb task.row len 0 task act
+    SpellsCdb (cdb_bytes cdb) (cdb_of s task 0 act) → MayAct s past stamp i c opened cdb task.row len 0 task act
 act-calm s past stamp i c t d opened cdb len task act calm stands before book has once whole spelt = record {
   opening = (stands, before);
   in_book = book;

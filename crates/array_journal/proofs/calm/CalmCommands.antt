@@ -9,7 +9,8 @@ use Rattle.array_journal.specs.declared.setting.Setting.{Setting}
 use Rattle.array_journal.specs.declared.task.Task.{Task}
 use Rattle.array_journal.specs.Entries.{some_at, stamps_below}
 use Rattle.array_journal.specs.Commands.{ends_command, is_open}
-use Rattle.array_journal.specs.Acts.{Fetches, Diffs, Takes, Folds, is_act}
+use Rattle.array_journal.specs.declared.act.Act.TheVariants.{Fetches, Diffs, Takes, Folds}
+use Rattle.array_journal.specs.Acts.{is_act}
 use Rattle.array_journal.specs.Decision.{opens_conflict, holder_of, count_of, held_count, has_room_at, has_room, holds_at}
 use Rattle.array_journal.specs.Run.{NoneOpen}
 use Rattle.array_journal.specs.Calm.{IsCalmEvent}

@@ -15,7 +15,9 @@ use Rattle.array_journal.specs.Entries.{entry_at, some_at}
 use Rattle.array_journal.specs.Commands.{open_count, is_open, task_of, first_task, opens_command, ends_command}
 use Rattle.array_journal.specs.Lives.{is_missing}
 use Rattle.array_journal.specs.Listed.{is_listed}
-use Rattle.array_journal.specs.Decision.{Decision, want_of, Opens, decision, missing_count, has_room}
+use Rattle.array_journal.specs.declared.decision.Decision.{Decision}
+use Rattle.array_journal.specs.declared.decision.Decision.TheVariants.{Opens}
+use Rattle.array_journal.specs.Decision.{want_of, decision, missing_count, has_room}
 use Rattle.array_journal.specs.May.{May, IsTask}
 use Rattle.array_journal.specs.Run.{Grows}
 use Rattle.array_journal.specs.Serving.{open_entry, opened_name}

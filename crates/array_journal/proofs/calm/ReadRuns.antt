@@ -3,7 +3,7 @@ use Rattle.std.specs.Prelude.{◌≡◌, ◌==◌, ℕ, suc, ◌+◌, ◌*◌, t
 use Rattle.std.proofs.Common.{refl, ap, sym, ◌∙◌, arith, subst, inl, inr}
 use Rattle.std.proofs.lemmas.Bool.{eq-eqb, ne_eqb, cases_eq, or_left}
 use Rattle.sbc_cdbs.specs.declared.descriptor.Cdb.{Cdb}
-use Rattle.sbc_cdbs.specs.Cdbs.{Spells, cdb_bytes}
+use Rattle.sbc_cdbs.specs.Cdbs.{SpellsCdb, cdb_bytes}
 use Rattle.array_journal.specs.declared.at.At.{At}
 use Rattle.array_journal.specs.declared.entry.Entry.{Entry}
 use Rattle.array_journal.specs.declared.setting.Setting.{Setting}
@@ -12,7 +12,9 @@ use Rattle.array_journal.specs.declared.task.Kind.TheVariants.{Read}
 use Rattle.array_journal.specs.declared.task.Task.{Task}
 use Rattle.array_journal.specs.Entries.{entry_at, some_at}
 use Rattle.array_journal.specs.Commands.{opens, ends_command, open_count, is_open, task_of}
-use Rattle.array_journal.specs.Acts.{Act, Fetches, Puts, Diffs, Takes, Folds, Holds, acts_at, is_act, task_bytes, cdb_of}
+use Rattle.array_journal.specs.declared.act.Act.{Act}
+use Rattle.array_journal.specs.declared.act.Act.TheVariants.{Fetches, Puts, Diffs, Takes, Folds, Holds}
+use Rattle.array_journal.specs.Acts.{acts_at, is_act, task_bytes, cdb_of}
 use Rattle.array_journal.specs.Media.{media, held, rows_on}
 use Rattle.array_journal.specs.Decision.{has_room, has_room_at, holder_of}
 use Rattle.blocks_core.specs.Lists.{slice}
@@ -55,7 +57,7 @@ same_rows s past task i row len =
 
 -- the read finds the rows as they stand
 pub may-fetch : (s : Setting) (past : List Entry) (task : Task) (fetch : Cdb) → Quiet s past → IsTask s task → task.kind ≡ Read →
-    Spells (cdb_bytes fetch) (cdb_of s task 0 Fetches) → May s (opened_past past task) (fetch_entry s past task fetch)
+    SpellsCdb (cdb_bytes fetch) (cdb_of s task 0 Fetches) → May s (opened_past past task) (fetch_entry s past task fetch)
 may-fetch s past task fetch q sound kind spelt = (
   stamps_below-calm (task.target + 1) (length past + 2) (length past + 1) (suc (open_count past)) (opened_past past task) (omega arith)
       (opened-calm s past task q),
@@ -142,7 +144,7 @@ read-room s past task kind = ap (λ (k : Kind). has_room_at s task past (holder_
 
 -- the entries of a read go on the run
 pub read-grows : (s : Setting) (past : List Entry) (task : Task) (fetch : Cdb) → Quiet s past → Grows s past → IsTask s task → task.kind ≡ Read →
-    Spells (cdb_bytes fetch) (cdb_of s task 0 Fetches) → Grows s (read_entries s past task fetch)
+    SpellsCdb (cdb_bytes fetch) (cdb_of s task 0 Fetches) → Grows s (read_entries s past task fetch)
 read-grows s past task fetch q grows sound kind spelt = (
   (stamp_lt (fetch_name past task) (next_name past 3 0) (omega arith), may-close_read s past task fetch q sound kind),
   (

@@ -7,7 +7,7 @@ use Rattle.blocks_core.proofs.XorLaws.{length-xor}
 use Rattle.stripe_layout.specs.declared.mode.Mode.TheVariants.{Supervised}
 use Rattle.stripe_layout.specs.Modes.{sends_delta, hands_delta_back}
 use Rattle.sbc_cdbs.specs.declared.descriptor.Cdb.{Cdb}
-use Rattle.sbc_cdbs.specs.Cdbs.{Spells, cdb_bytes}
+use Rattle.sbc_cdbs.specs.Cdbs.{SpellsCdb, cdb_bytes}
 use Rattle.array_journal.specs.declared.at.At.{At}
 use Rattle.array_journal.specs.declared.entry.Entry.{Entry}
 use Rattle.array_journal.specs.declared.event.Event.{Event}
@@ -19,7 +19,9 @@ use Rattle.array_journal.specs.declared.task.Task.{Task}
 use Rattle.blocks_core.specs.Lists.{slice}
 use Rattle.array_journal.specs.Entries.{entry_at, some_at}
 use Rattle.array_journal.specs.Commands.{open_count, is_open, task_of}
-use Rattle.array_journal.specs.Acts.{Act, Fetches, Puts, Diffs, Takes, Folds, Holds, acts_at, is_act, task_bytes, cdb_of}
+use Rattle.array_journal.specs.declared.act.Act.{Act}
+use Rattle.array_journal.specs.declared.act.Act.TheVariants.{Fetches, Puts, Diffs, Takes, Folds, Holds}
+use Rattle.array_journal.specs.Acts.{acts_at, is_act, task_bytes, cdb_of}
 use Rattle.xor_buffers.specs.declared.held.HeldBlocks.{HeldBlocks}
 use Rattle.xor_buffers.specs.Held.{rows_held}
 use Rattle.xor_buffers.proofs.HeldLists.{own_blocks, rows_held-own}
@@ -96,7 +98,7 @@ folded-calm s past task diff take fold q =
 
 -- the blocks are written, and their delta is held
 pub may-diff : (s : Setting) (past : List Entry) (task : Task) (diff : Cdb) → CanUpdate s past task →
-    Spells (cdb_bytes diff) (cdb_of s task 0 Diffs) → May s (opened_past past task) (diff_entry past task diff)
+    SpellsCdb (cdb_bytes diff) (cdb_of s task 0 Diffs) → May s (opened_past past task) (diff_entry past task diff)
 may-diff s past task diff u spelt = (
   stamps_below-calm (task.target + 1) (length past + 2) (length past + 1) (suc (open_count past)) (opened_past past task) (omega arith)
       (opened-calm s past task u.quiet),
@@ -134,7 +136,7 @@ diffed-opened past task diff =
 
 -- the delta is had as it is held
 pub may-take : (s : Setting) (past : List Entry) (task : Task) (diff take : Cdb) → CanUpdate s past task →
-    Spells (cdb_bytes take) (cdb_of s task 0 Takes) → May s (diffed_past past task diff) (take_entry s past task take)
+    SpellsCdb (cdb_bytes take) (cdb_of s task 0 Takes) → May s (diffed_past past task diff) (take_entry s past task take)
 may-take s past task diff take u spelt = (
   stamps_below-calm (task.target + 1) (length past + 3) (length past + 2) (suc (open_count past)) (diffed_past past task diff) (omega arith)
       (diffed-calm s past task diff u.quiet),
@@ -171,7 +173,7 @@ parity-target s task sound = omega (arith, sound.parity, sound.target)
 
 -- the delta that was taken is folded
 pub may-fold : (s : Setting) (past : List Entry) (task : Task) (diff take fold : Cdb) → CanUpdate s past task →
-    Spells (cdb_bytes fold) (cdb_of s task 0 Folds) → May s (taken_past s past task diff take) (fold_entry s past task fold)
+    SpellsCdb (cdb_bytes fold) (cdb_of s task 0 Folds) → May s (taken_past s past task diff take) (fold_entry s past task fold)
 may-fold s past task diff take fold u spelt = (
   stamps_below-calm (task.parity + 1) (length past + 4) (length past + 3) (suc (open_count past)) (taken_past s past task diff take) (omega arith)
       (taken-calm s past task diff take u.quiet),
@@ -323,7 +325,7 @@ may-close_update s past task diff take fold u = (
 -- the entries of an update go on the run
 pub update-grows : (s : Setting) (past : List Entry) (task : Task) (diff take fold : Cdb) → IsSetting s → s.mode ≡ Supervised →
     Quiet s past → Grows s past → IsTask s task → task.kind ≡ Update → task.count ≤ s.buffer →
-    Spells (cdb_bytes diff) (cdb_of s task 0 Diffs) → Spells (cdb_bytes take) (cdb_of s task 0 Takes) → Spells (cdb_bytes fold) (cdb_of s task 0 Folds) →
+    SpellsCdb (cdb_bytes diff) (cdb_of s task 0 Diffs) → SpellsCdb (cdb_bytes take) (cdb_of s task 0 Takes) → SpellsCdb (cdb_bytes fold) (cdb_of s task 0 Folds) →
     Grows s (update_entries s past task diff take fold)
 update-grows s past task diff take fold setting supervised q grows sound kind fits by_diff by_take by_fold = (
   (stamp_lt (fold_name past task) (next_name past 5 0) (omega arith), may-close_update s past task diff take fold u),

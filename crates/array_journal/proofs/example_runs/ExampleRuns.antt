@@ -7,7 +7,9 @@ use Rattle.sbc_cdbs.specs.declared.descriptor.Cdb.{Cdb}
 use Rattle.array_journal.specs.declared.entry.Entry.{Entry}
 use Rattle.array_journal.specs.declared.event.Event.TheVariants.{Fetch, Put, Take, Hold, Gone, Fresh, Open, Close, Note, Swap}
 use Rattle.array_journal.specs.declared.task.Kind.TheVariants.{DataOnly, DegradedRead, Rebuild}
-use Rattle.array_journal.specs.Acts.{Act, Fetches, Puts, Diffs, Takes, Folds, Holds, acts_at}
+use Rattle.array_journal.specs.declared.act.Act.{Act}
+use Rattle.array_journal.specs.declared.act.Act.TheVariants.{Fetches, Puts, Diffs, Takes, Folds, Holds}
+use Rattle.array_journal.specs.Acts.{acts_at}
 use Rattle.array_journal.specs.May.{May, IsTask, NamesActs, AllNamed, is_named}
 use Rattle.array_journal.specs.ExampleJournals.{tiny, at, entry, old_task}
 use Rattle.array_journal.specs.Examples.{one_byte, zero_byte, data_task, PutAloneRuns, DeltaWipedRuns, mend_task, RebuiltRuns, tiny_third, gather_task, GatheredRuns, RefusedRuns}

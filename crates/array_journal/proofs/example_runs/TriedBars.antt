@@ -10,7 +10,9 @@ use Rattle.array_journal.specs.declared.event.Event.TheVariants.{Diff, Take, Ope
 use Rattle.array_journal.specs.declared.task.Kind.TheVariants.{Update, Rebuild}
 use Rattle.array_journal.specs.declared.task.Task.{Task}
 use Rattle.array_journal.specs.Entries.{name_of, same_at, entry_at}
-use Rattle.array_journal.specs.Acts.{Act, Folds, Puts, has_act, is_act}
+use Rattle.array_journal.specs.declared.act.Act.{Act}
+use Rattle.array_journal.specs.declared.act.Act.TheVariants.{Folds, Puts}
+use Rattle.array_journal.specs.Acts.{has_act, is_act}
 use Rattle.array_journal.specs.Lives.{swap_count}
 use Rattle.array_journal.specs.May.{passes, is_named, is_loss_in}
 use Rattle.array_journal.specs.ExampleJournals.{small, at, entry, block, write_task, rebuild_task, rebuilding, UnfoldedStaysOpen, UnputStaysOpen}

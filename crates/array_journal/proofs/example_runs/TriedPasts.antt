@@ -6,7 +6,9 @@ use Rattle.sbc_cdbs.specs.declared.descriptor.Cdb.{Cdb}
 use Rattle.array_journal.specs.declared.entry.Entry.{Entry}
 use Rattle.array_journal.specs.declared.event.Event.TheVariants.{Diff, Take, Gone, Open, Close, Note}
 use Rattle.array_journal.specs.declared.task.Kind.TheVariants.{Update}
-use Rattle.array_journal.specs.Acts.{Act, Fetches, Puts, Diffs, Takes, Folds, Holds, acts_at}
+use Rattle.array_journal.specs.declared.act.Act.{Act}
+use Rattle.array_journal.specs.declared.act.Act.TheVariants.{Fetches, Puts, Diffs, Takes, Folds, Holds}
+use Rattle.array_journal.specs.Acts.{acts_at}
 use Rattle.array_journal.specs.May.{May, IsTask, NamesActs, AllNamed, is_named}
 use Rattle.array_journal.specs.ExampleJournals.{small, tiny, at, entry, write_task, rebuild_task, old_task, BesideUpdateRuns, RebuildingRuns, ParityReplacedRuns, SpoiltRuns}
 use Rattle.array_journal.proofs.calm.ActSteps.{all_named-none, all_named-one}

@@ -7,7 +7,9 @@ use Rattle.sbc_cdbs.specs.declared.descriptor.Cdb.{Cdb}
 use Rattle.array_journal.specs.declared.entry.Entry.{Entry}
 use Rattle.array_journal.specs.declared.task.Kind.TheVariants.{Read, Update, DegradedRead}
 use Rattle.array_journal.specs.declared.event.Event.TheVariants.{Fetch, Diff, Take, Fold, Shut, Gone, Open, Close, Note}
-use Rattle.array_journal.specs.Acts.{Act, Fetches, Puts, Diffs, Takes, Folds, Holds, acts_at}
+use Rattle.array_journal.specs.declared.act.Act.{Act}
+use Rattle.array_journal.specs.declared.act.Act.TheVariants.{Fetches, Puts, Diffs, Takes, Folds, Holds}
+use Rattle.array_journal.specs.Acts.{acts_at}
 use Rattle.array_journal.specs.May.{May, IsTask, MayAct, NamesActs, AllNamed, is_named}
 use Rattle.array_journal.specs.ExampleJournals.{small, at, entry, block, blank, SpellsAct, write_task, read_task, written, WriteAndReadRuns, first_read, degraded_read, given_up, LossMeetsAReadRuns}
 use Rattle.array_journal.proofs.calm.ActSteps.{all_named-none, all_named-one}

@@ -7,8 +7,10 @@ use Rattle.array_journal.specs.declared.event.Why.TheVariants.{Medium, NotReady}
 use Rattle.array_journal.specs.declared.task.Kind.{Kind}
 use Rattle.array_journal.specs.declared.task.Kind.TheVariants.{Update, DataOnly, DegradedWrite}
 use Rattle.array_journal.specs.declared.task.Task.{Task}
-use Rattle.array_journal.specs.Acts.{Puts, acts_at, task_bytes}
-use Rattle.array_journal.specs.Decision.{Opens, Refuses, decision, want_of, missing_count}
+use Rattle.array_journal.specs.declared.act.Act.TheVariants.{Puts}
+use Rattle.array_journal.specs.Acts.{acts_at, task_bytes}
+use Rattle.array_journal.specs.declared.decision.Decision.TheVariants.{Opens, Refuses}
+use Rattle.array_journal.specs.Decision.{decision, want_of, missing_count}
 use Rattle.array_journal.specs.Listed.{is_listed}
 use Rattle.array_journal.specs.Lives.{is_missing}
 use Rattle.stripe_layout.specs.Layout.{parity_of}

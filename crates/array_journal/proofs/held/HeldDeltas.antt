@@ -19,7 +19,8 @@ use Rattle.array_journal.specs.declared.task.Task.{Task}
 use Rattle.blocks_core.specs.Lists.{slice}
 use Rattle.array_journal.specs.Entries.{entry_at, some_at}
 use Rattle.array_journal.specs.Commands.{task_of}
-use Rattle.array_journal.specs.Acts.{Diffs, Takes, Holds, acts_at, is_act}
+use Rattle.array_journal.specs.declared.act.Act.TheVariants.{Diffs, Takes, Holds}
+use Rattle.array_journal.specs.Acts.{acts_at, is_act}
 use Rattle.xor_buffers.specs.declared.held.HeldBlocks.{HeldBlocks}
 use Rattle.xor_buffers.specs.Held.{has_owner}
 use Rattle.xor_buffers.proofs.HeldLists.{all-owned, all-kept, all-joined, without}

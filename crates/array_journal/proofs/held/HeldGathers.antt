@@ -16,7 +16,8 @@ use Rattle.array_journal.specs.declared.task.Task.{Task}
 use Rattle.blocks_core.specs.Lists.{slice}
 use Rattle.array_journal.specs.Entries.{name_of, entry_at, some_at, stamps_below}
 use Rattle.array_journal.specs.Commands.{task_of}
-use Rattle.array_journal.specs.Acts.{Diffs, Takes, is_act}
+use Rattle.array_journal.specs.declared.act.Act.TheVariants.{Diffs, Takes}
+use Rattle.array_journal.specs.Acts.{is_act}
 use Rattle.xor_buffers.specs.declared.held.HeldBlocks.{HeldBlocks}
 use Rattle.xor_buffers.proofs.HeldLists.{all-owned, all-kept, all-joined}
 use Rattle.array_journal.specs.Media.{media, held, held_after}

@@ -16,6 +16,7 @@ use Rattle.array_journal.specs.declared.entry.Entry.{Entry}
 use Rattle.array_journal.specs.declared.event.Event.{Event}
 use Rattle.array_journal.specs.declared.event.Event.TheVariants.{Fetch, Put, Diff, Take, Fold, Hold, Shut, Gone, Wiped, Fresh, Open}
 use Rattle.array_journal.specs.declared.event.What.TheVariants.{Buffers, Request}
+use Rattle.stripe_layout.proofs.StripeLaws as strips
 use Rattle.array_journal.specs.declared.setting.Setting.{Setting}
 use Rattle.array_journal.specs.declared.task.Kind.{Kind}
 use Rattle.array_journal.specs.declared.task.Kind.TheVariants.{Read, Update, DataOnly, DegradedRead, DegradedWrite, Rebuild, Resync}
@@ -23,7 +24,9 @@ use Rattle.array_journal.specs.declared.task.Task.{Task}
 use Rattle.blocks_core.specs.Lists.{slice}
 use Rattle.array_journal.specs.Entries.{entry_at, some_at, count_before, stamps_below}
 use Rattle.array_journal.specs.Commands.{ends_command, is_open, task_of, is_shared, is_shared_write, rows_meet, tasks_conflict}
-use Rattle.array_journal.specs.Acts.{Act, Diffs, Takes, Holds, acts_at, gatherer, has_act, is_act, shuts_command, task_bytes}
+use Rattle.array_journal.specs.declared.act.Act.{Act}
+use Rattle.array_journal.specs.declared.act.Act.TheVariants.{Diffs, Takes, Holds}
+use Rattle.array_journal.specs.Acts.{acts_at, gatherer, has_act, is_act, shuts_command, task_bytes}
 use Rattle.xor_buffers.specs.declared.held.HeldBlocks.{HeldBlocks}
 use Rattle.xor_buffers.specs.Held.{take_rows, rows_held, has_owner}
 use Rattle.xor_buffers.proofs.OwnerLaws.{has_owner-joined, found-owner, owner-named}
@@ -141,10 +144,7 @@ rows-apart a b h = elim (and_cases (nat_lt a.row (b.row + b.count)) (nat_lt b.ro
 
 -- the rows of two stripes
 stripes-apart : (s : Setting) (a b : Task) → IsTask s a → IsTask s b → a.stripe < b.stripe → a.row + a.count ≤ b.row
-stripes-apart s a b p q h =
-    let m : (a.stripe + 1) * s.geometry.unit ≤ b.stripe * s.geometry.unit = mul-le (a.stripe + 1) s.geometry.unit b.stripe s.geometry.unit (omega arith) (omega arith) in
-    let x : a.row + a.count ≤ (a.stripe + 1) * s.geometry.unit = p.to_stripe in
-    let y : b.stripe * s.geometry.unit ≤ b.row = q.from_stripe in omega arith
+stripes-apart s a b p q h = omega (arith, p.to_stripe, q.from_stripe, strips.stripes-apart s.geometry a.stripe b.stripe h q.in_array)
 
 -- two commands that take at one target and don't conflict have no row in common
 takers-apart : (s : Setting) (i : ℕ) (a b : Task) → IsTask s a → IsTask s b → TakesBy s.mode a i → TakesBy s.mode b i →

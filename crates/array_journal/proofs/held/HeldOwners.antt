@@ -16,7 +16,9 @@ use Rattle.array_journal.specs.declared.task.Kind.TheVariants.{Read, Update, Dat
 use Rattle.array_journal.specs.declared.task.Task.{Task}
 use Rattle.array_journal.specs.Entries.{name_of, some_at}
 use Rattle.array_journal.specs.Commands.{task_of}
-use Rattle.array_journal.specs.Acts.{Act, Fetches, Puts, Diffs, Takes, Folds, Holds, acts_at, has_act, is_act}
+use Rattle.array_journal.specs.declared.act.Act.{Act}
+use Rattle.array_journal.specs.declared.act.Act.TheVariants.{Fetches, Puts, Diffs, Takes, Folds, Holds}
+use Rattle.array_journal.specs.Acts.{acts_at, has_act, is_act}
 use Rattle.xor_buffers.specs.declared.held.HeldBlocks.{HeldBlocks}
 use Rattle.xor_buffers.specs.Held.{has_owner}
 use Rattle.xor_buffers.proofs.OwnerLaws.{has_owner-joined, taken-owner, kept-owner, named-owner}

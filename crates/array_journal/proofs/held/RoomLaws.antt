@@ -15,7 +15,8 @@ use Rattle.array_journal.specs.declared.task.Kind.TheVariants.{Read, Update, Dat
 use Rattle.array_journal.specs.declared.task.Task.{Task}
 use Rattle.array_journal.specs.Entries.{some_at}
 use Rattle.array_journal.specs.Commands.{opens_command, ends_command, is_open, task_given, task_of, first_task}
-use Rattle.array_journal.specs.Acts.{Takes, acts_at, gatherer}
+use Rattle.array_journal.specs.declared.act.Act.TheVariants.{Takes}
+use Rattle.array_journal.specs.Acts.{acts_at, gatherer}
 use Rattle.xor_buffers.specs.declared.held.HeldBlocks.{HeldBlocks}
 use Rattle.xor_buffers.specs.Held.{has_owner, held_blocks}
 use Rattle.xor_buffers.proofs.HeldLists.{AreDistinct, without, taken-out, without-apart, without-all, without-distinct}

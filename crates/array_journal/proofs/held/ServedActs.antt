@@ -4,7 +4,6 @@ use Rattle.std.specs.Prelude.{◌≡◌, ◌==◌, ◌&&◌, ◌||◌, ◌≤◌
 use Rattle.std.proofs.Common.{refl, ap, sym, ◌∙◌, subst, cond, arith, inl, inr}
 use Rattle.std.proofs.lemmas.Bool.{and_parts, or_cases, leb-true, eq-eqb, cases_Bool, both_ways, false≢true}
 use Rattle.std.proofs.lemmas.List.{length-replicate}
-use Rattle.std.proofs.lemmas.Nat.{mul-le}
 use Rattle.blocks_core.specs.Xor.{zeros}
 use Rattle.array_journal.specs.declared.at.At.{At}
 use Rattle.array_journal.specs.declared.entry.Entry.{Entry}
@@ -14,7 +13,9 @@ use Rattle.array_journal.specs.declared.setting.Setting.{Setting}
 use Rattle.array_journal.specs.declared.task.Task.{Task}
 use Rattle.array_journal.specs.Entries.{entry_at, some_at, count_at, count_before, stamps_below}
 use Rattle.array_journal.specs.Commands.{is_open, task_of}
-use Rattle.array_journal.specs.Acts.{Act, Fetches, Puts, Diffs, Takes, Folds, Holds, has_act, is_act, is_target, task_bytes}
+use Rattle.array_journal.specs.declared.act.Act.{Act}
+use Rattle.array_journal.specs.declared.act.Act.TheVariants.{Fetches, Puts, Diffs, Takes, Folds, Holds}
+use Rattle.array_journal.specs.Acts.{has_act, is_act, is_target, task_bytes}
 use Rattle.xor_buffers.specs.declared.held.HeldBlocks.{HeldBlocks}
 use Rattle.xor_buffers.specs.Held.{has_owner, held_blocks}
 use Rattle.xor_buffers.proofs.HeldLists.{all-owned}
@@ -35,6 +36,7 @@ use Rattle.array_journal.proofs.reads.KnownBlocks.{acts-there}
 use Rattle.array_journal.proofs.held.RoomLaws.{IsCounted, takes-holds, all-fits, held-counted}
 use Rattle.array_journal.proofs.lives.WaitingSlots.{open-before, one-waits}
 use Rattle.array_journal.proofs.owed.EndedCommands.{target-of_act}
+use Rattle.array_journal.proofs.held.TaskPlaces.{rows-fit}
 
 -- each entry of a lock is before a stamp that is above all of them
 all-before : (k stamp : ℕ) (test : Event → Bool) (past : List Entry) → stamps_below k stamp past ≡ true → count_before k test stamp past ≡ count_at k test past
@@ -216,12 +218,8 @@ room-left s past i c task set g o its takes none =
 pub no-other_answer : NoOtherAnswerLaw
 no-other_answer s i c opened task act past set g d = record {
   same_life = due-life s past i c opened task act g d;
-  in_range =
-      let m : (task.stripe + 1) * s.geometry.unit ≤ s.geometry.stripes * s.geometry.unit =
-      mul-le (task.stripe + 1) s.geometry.unit s.geometry.stripes s.geometry.unit (omega (arith, sound.in_array)) (omega arith) in
-      omega (arith, m, sound.to_stripe);
-  short = let u : (task.stripe + 1) * s.geometry.unit ≡ task.stripe * s.geometry.unit + s.geometry.unit = one_more task.stripe s.geometry.unit in
-      omega (arith, u, sound.from_stripe, sound.to_stripe);
+  in_range = rows-fit s task sound;
+  short = omega (arith, sound.from_stripe, sound.to_stripe);
   unheld = λ f. all-apart_from s past i c task set g d.open_still its (filling-takes s act task i f d.of_task) (due-unheld s past i c opened task act g d f);
   room = λ f. room-left s past i c task set g d.open_still its (filling-takes s act task i f d.of_task) (due-unheld s past i c opened task act g d f);
 }

@@ -3,6 +3,7 @@ use Rattle.std.specs.Prelude.{◌≤◌, ◌+◌, ◌*◌}
 use Rattle.std.proofs.Common.{arith}
 use Rattle.std.proofs.Math.Nat.{mul-le-mul_right, add-mul}
 use Rattle.stripe_layout.specs.Layout.{rows_of}
+use Rattle.stripe_layout.proofs.StripeLaws.{stripe-below}
 use Rattle.array_journal.specs.declared.setting.Setting.{Setting}
 use Rattle.array_journal.specs.declared.task.Task.{Task}
 use Rattle.array_journal.specs.Acts.{task_bytes}
@@ -10,10 +11,7 @@ use Rattle.array_journal.specs.May.{IsTask}
 
 -- the rows of a task are rows of the targets
 pub rows-fit : (s : Setting) (task : Task) → IsTask s task → task.row + task.count ≤ rows_of s.geometry
-rows-fit s task h =
-    let whole : (task.stripe + 1) * s.geometry.unit ≤ s.geometry.stripes * s.geometry.unit =
-    mul-le-mul_right s.geometry.unit (omega (arith, h.in_array)) in
-    omega (arith, h.to_stripe)
+rows-fit s task h = omega (arith, h.to_stripe, stripe-below s.geometry task.stripe h.in_array)
 
 -- its bytes are bytes of the medium
 pub rows-fit_bytes : (s : Setting) (task : Task) → IsTask s task →

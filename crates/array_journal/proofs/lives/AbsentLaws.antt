@@ -17,9 +17,12 @@ use Rattle.array_journal.specs.declared.task.Kind.TheVariants.{Rebuild}
 use Rattle.array_journal.specs.declared.task.Task.{Task}
 use Rattle.array_journal.specs.Entries.{name_of, same_at, entry_at, some_at, count_before, stamps_below}
 use Rattle.array_journal.specs.Commands.{opens_command, ends_command, task_given, task_of, first_task}
-use Rattle.array_journal.specs.Acts.{Act, Puts, has_act, is_act}
+use Rattle.array_journal.specs.declared.act.Act.{Act}
+use Rattle.array_journal.specs.declared.act.Act.TheVariants.{Puts}
+use Rattle.array_journal.specs.Acts.{has_act, is_act}
 use Rattle.array_journal.specs.Lives.{is_note_of, is_swap_of, is_gone, life_of, swap_count, is_unfitted, is_rebuild, rebuilds, closes_done, has_rebuilt, puts_rebuilt, opens_rebuilt, is_loss, absent_in, is_absent, missing_in, is_missing}
-use Rattle.array_journal.specs.Decision.{Opens, Refuses, want_of, decision}
+use Rattle.array_journal.specs.declared.decision.Decision.TheVariants.{Opens, Refuses}
+use Rattle.array_journal.specs.Decision.{want_of, decision}
 use Rattle.array_journal.specs.May.{MayAct, MayBook, MayOpen, MayClose, IsTask}
 use Rattle.array_journal.specs.Run.{Grows}
 use Rattle.array_journal.specs.Laws.{note_count, unfitted_count, is_loss_from, entries_before}

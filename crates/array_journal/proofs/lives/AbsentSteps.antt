@@ -9,7 +9,8 @@ use Rattle.array_journal.specs.declared.setting.Setting.{Setting}
 use Rattle.array_journal.specs.declared.task.Task.{Task}
 use Rattle.array_journal.specs.Entries.{some_at}
 use Rattle.array_journal.specs.Commands.{opens_command, ends_command, is_open, task_of}
-use Rattle.array_journal.specs.Acts.{Puts, is_act}
+use Rattle.array_journal.specs.declared.act.Act.TheVariants.{Puts}
+use Rattle.array_journal.specs.Acts.{is_act}
 use Rattle.array_journal.specs.Lives.{rebuilds, closes_done, has_rebuilt, puts_rebuilt, is_loss, absent_in, is_absent}
 use Rattle.array_journal.specs.Run.{Grows}
 use Rattle.array_journal.proofs.runs.Standing.{may-here}

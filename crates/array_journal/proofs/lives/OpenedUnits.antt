@@ -17,10 +17,12 @@ use Rattle.array_journal.specs.declared.task.Task.{Task}
 use Rattle.array_journal.specs.Lists.{numbers}
 use Rattle.array_journal.specs.Entries.{name_of, same_at, entry_at}
 use Rattle.array_journal.specs.Commands.{is_open, task_of, is_shared}
-use Rattle.array_journal.specs.Acts.{Act}
+use Rattle.array_journal.specs.declared.act.Act.{Act}
 use Rattle.array_journal.specs.Lives.{is_gone, is_absent, is_missing, is_unfitted}
 use Rattle.array_journal.specs.Listed.{is_listed}
-use Rattle.array_journal.specs.Decision.{Decision, Opens, Refuses, want_of, missing_count, decision}
+use Rattle.array_journal.specs.declared.decision.Decision.{Decision}
+use Rattle.array_journal.specs.declared.decision.Decision.TheVariants.{Opens, Refuses}
+use Rattle.array_journal.specs.Decision.{want_of, missing_count, decision}
 use Rattle.array_journal.specs.May.{MayAct, MayBook, MayOpen}
 use Rattle.array_journal.specs.Run.{Grows}
 use Rattle.array_journal.specs.Laws.{entries_before}

@@ -13,7 +13,8 @@ use Rattle.array_journal.specs.declared.task.Kind.TheVariants.{Rebuild}
 use Rattle.array_journal.specs.declared.task.Task.{Task}
 use Rattle.array_journal.specs.Entries.{name_of, some_at}
 use Rattle.array_journal.specs.Commands.{opens_command, ends_command, is_open, task_of, is_shared}
-use Rattle.array_journal.specs.Acts.{Puts, is_act}
+use Rattle.array_journal.specs.declared.act.Act.TheVariants.{Puts}
+use Rattle.array_journal.specs.Acts.{is_act}
 use Rattle.array_journal.specs.Lives.{is_note_of, loss_after, loss_of, is_gone, rebuilds, closes_done, has_rebuilt, puts_rebuilt, opens_rebuilt, is_loss, absent_in, is_absent, missing_in, is_missing}
 use Rattle.array_journal.specs.May.{MayBook, MayOpen}
 use Rattle.array_journal.specs.Run.{Grows}

@@ -16,7 +16,9 @@ use Rattle.array_journal.specs.declared.task.Task.{Task}
 use Rattle.array_journal.specs.Lists.{numbers}
 use Rattle.array_journal.specs.Entries.{entry_at, some_at, count_before, stamps_below}
 use Rattle.array_journal.specs.Commands.{opens_command, ends_command, is_open, task_of}
-use Rattle.array_journal.specs.Acts.{Act, Fetches, Puts, Diffs, Takes, Folds, Holds, acts_at, has_act, is_target, is_act, shuts_command}
+use Rattle.array_journal.specs.declared.act.Act.{Act}
+use Rattle.array_journal.specs.declared.act.Act.TheVariants.{Fetches, Puts, Diffs, Takes, Folds, Holds}
+use Rattle.array_journal.specs.Acts.{acts_at, has_act, is_target, is_act, shuts_command}
 use Rattle.xor_buffers.specs.Held.{rows_held, has_owner}
 use Rattle.xor_buffers.proofs.OwnerLaws.{found-owner}
 use Rattle.array_journal.specs.Media.{held, drops}

@@ -14,7 +14,9 @@ use Rattle.array_journal.specs.declared.task.Kind.TheVariants.{Update}
 use Rattle.array_journal.specs.declared.task.Task.{Task}
 use Rattle.array_journal.specs.Entries.{some_at}
 use Rattle.array_journal.specs.Commands.{opens_command, ends_command, is_open, task_of}
-use Rattle.array_journal.specs.Acts.{Act, Puts, Diffs, Folds, is_target, is_act, shuts_command, changes_medium}
+use Rattle.array_journal.specs.declared.act.Act.{Act}
+use Rattle.array_journal.specs.declared.act.Act.TheVariants.{Puts, Diffs, Folds}
+use Rattle.array_journal.specs.Acts.{is_target, is_act, shuts_command, changes_medium}
 use Rattle.array_journal.specs.Lives.{closes_done, is_gone, is_missing, is_absent}
 use Rattle.array_journal.specs.Listed.{makes_parity, renews_parity, has_stripe, listed_after, listed_for, is_listed}
 use Rattle.array_journal.specs.Deltas.{has_acted}

@@ -4,13 +4,13 @@ use Rattle.std.proofs.Common.{refl, ap, sym, ◌∙◌, arith}
 use Rattle.std.proofs.lemmas.Bool.{cond_both, false≢true}
 use Rattle.blocks_core.specs.Xor.{xor, zeros}
 use Rattle.blocks_core.proofs.XorLaws.{zeros-zeros}
-use Rattle.stripe_layout.specs.Layout.{parity_of, capacity_of, rows_of, lba_at, target_of_unit}
+use Rattle.stripe_layout.specs.Layout.{parity_of, capacity_of, rows_of, lba_at, target_of_unit, IsRowOf}
 use Rattle.array_journal.specs.declared.entry.Entry.{Entry}
 use Rattle.array_journal.specs.declared.setting.Setting.{Setting}
 use Rattle.blocks_core.specs.Lists.{block_at}
 use Rattle.blocks_core.proofs.BlockLists.{block_at-zeros}
 use Rattle.array_journal.specs.Host.{unit_at}
-use Rattle.array_journal.specs.Run.{IsSetting, Grows, IsRowOf, Conserved, sectors}
+use Rattle.array_journal.specs.Run.{IsSetting, Grows, Conserved, sectors}
 use Rattle.array_journal.specs.Laws.{ConservedLaw}
 use Rattle.array_journal.proofs.runs.BeginningLaws.{beginning-run}
 use Rattle.array_journal.proofs.sums.LayoutLaws.{unit_of_target, target_of-other, unit_at-below, parity_of-below, row-below, lba_at-below}
@@ -32,13 +32,13 @@ zeros-known : (s : Setting) (stripe i r : ℕ) → IsSetting s → IsRowOf s.geo
     known s [] stripe i r ≡ zeros s.geometry.block
 zeros-known s stripe i r set at below other =
     block_at-zeros s.geometry.block (capacity_of s.geometry) (lba_at s.geometry stripe (unit_at (parity_of s.geometry stripe) i) r)
-    (lba_at-below s stripe (unit_at (parity_of s.geometry stripe) i) r set at.in_array
+    (lba_at-below s stripe (unit_at (parity_of s.geometry stripe) i) r set at
     (unit_at-below (parity_of s.geometry stripe) i s.geometry.targets other below (parity_of-below s stripe set)))
 
 zeros-sum : (s : Setting) (stripe r : ℕ) → IsSetting s → IsRowOf s.geometry stripe r → data_sum s [] stripe r ≡ zeros s.geometry.block
 zeros-sum s stripe r set at =
     xor_all-zeros s.geometry.block (λ unit. block_at s.geometry.block (sectors s.geometry []) (lba_at s.geometry stripe unit r)) (s.geometry.targets - 1) 0
-    (λ x low high. block_at-zeros s.geometry.block (capacity_of s.geometry) (lba_at s.geometry stripe x r) (lba_at-below s stripe x r set at.in_array (omega arith)))
+    (λ x low high. block_at-zeros s.geometry.block (capacity_of s.geometry) (lba_at s.geometry stripe x r) (lba_at-below s stripe x r set at (omega arith)))
 
 pub kept-run : (s : Setting) (past : List Entry) → IsSetting s → Grows s past → Kept s past
 kept-run s [] set g = record {

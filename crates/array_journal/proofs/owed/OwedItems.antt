@@ -5,7 +5,7 @@ use Rattle.std.specs.List.{AllByRecursion}
 use Rattle.std.proofs.Common.{refl, ap, sym, ◌∙◌, cond, arith, subst, inl, inr}
 use Rattle.std.proofs.lemmas.Bool.{eq-eqb, eqb-true, cases_eq, cases_Bool, and_from, and_parts, both_ways, not-true, false≢true, cond-true, cond_both}
 use Rattle.stripe_layout.specs.declared.mode.Mode.{Mode}
-use Rattle.stripe_layout.specs.Layout.{parity_of}
+use Rattle.stripe_layout.specs.Layout.{parity_of, IsRowOf}
 use Rattle.sbc_cdbs.specs.declared.descriptor.Cdb.{Cdb}
 use Rattle.array_journal.specs.declared.at.At.{At}
 use Rattle.array_journal.specs.declared.entry.Entry.{Entry}
@@ -18,10 +18,12 @@ use Rattle.array_journal.specs.declared.task.Task.{Task}
 use Rattle.blocks_core.specs.Lists.{block_at}
 use Rattle.array_journal.specs.Entries.{some_at}
 use Rattle.array_journal.specs.Commands.{opens_command, is_open, task_of, is_shared}
-use Rattle.array_journal.specs.Acts.{Act, Puts, Diffs, Folds, acts_at, has_act, is_act, task_bytes}
+use Rattle.array_journal.specs.declared.act.Act.{Act}
+use Rattle.array_journal.specs.declared.act.Act.TheVariants.{Puts, Diffs, Folds}
+use Rattle.array_journal.specs.Acts.{acts_at, has_act, is_act, task_bytes}
 use Rattle.array_journal.specs.Deltas.{Delta, covers, delta_of, has_acted, puts_row, with_delta, outstanding_in}
 use Rattle.array_journal.specs.May.{MayTarget, IsTask, IsTaskOfKind}
-use Rattle.array_journal.specs.Run.{Grows, IsSetting, IsRowOf}
+use Rattle.array_journal.specs.Run.{Grows, IsSetting}
 use Rattle.array_journal.proofs.runs.Standing.{may-here, some_at-cases, some_at-newest, some_at-more}
 use Rattle.array_journal.proofs.runs.CommandLaws.{named-task, task_of-more, opened-once, task-opened, one_task}
 use Rattle.array_journal.proofs.held.HeldOwners.{act-asks, HasAct, acted-has}

@@ -4,7 +4,7 @@ use Rattle.std.specs.Prelude.{◌≡◌, ◌≢◌, ◌⊎◌, ℕ, ◌+◌, ◌
 use Rattle.std.specs.List.{AllByRecursion}
 use Rattle.std.proofs.Common.{refl, ap, sym, ◌∙◌, subst, inl, inr}
 use Rattle.std.proofs.lemmas.Bool.{eq-eqb, cases_eq, cases_Bool, both_ways, false≢true}
-use Rattle.stripe_layout.specs.Layout.{parity_of}
+use Rattle.stripe_layout.specs.Layout.{parity_of, IsRowOf}
 use Rattle.array_journal.specs.declared.entry.Entry.{Entry}
 use Rattle.array_journal.specs.declared.event.Event.{Event}
 use Rattle.array_journal.specs.declared.event.Event.TheVariants.{Diff, Fold}
@@ -14,11 +14,12 @@ use Rattle.array_journal.specs.declared.task.Task.{Task}
 use Rattle.blocks_core.specs.Lists.{block_at}
 use Rattle.array_journal.specs.Entries.{some_at}
 use Rattle.array_journal.specs.Commands.{opens_command, ends_command, is_open, task_of, is_shared}
-use Rattle.array_journal.specs.Acts.{Diffs, Folds, is_act, task_bytes}
+use Rattle.array_journal.specs.declared.act.Act.TheVariants.{Diffs, Folds}
+use Rattle.array_journal.specs.Acts.{is_act, task_bytes}
 use Rattle.array_journal.specs.Lives.{is_absent}
 use Rattle.array_journal.specs.Deltas.{Delta, covers, delta_of, has_acted, puts_row, outstanding}
 use Rattle.array_journal.specs.May.{MayTarget}
-use Rattle.array_journal.specs.Run.{Grows, IsSetting, IsRowOf, IsTrusted}
+use Rattle.array_journal.specs.Run.{Grows, IsSetting, IsTrusted}
 use Rattle.array_journal.specs.Laws.{RunsAlone}
 use Rattle.array_journal.proofs.runs.CommandLaws.{one_task}
 use Rattle.array_journal.proofs.runs.Steps.{is_open-quiet}

@@ -11,7 +11,7 @@ use Rattle.array_journal.specs.declared.event.Event.{Event}
 use Rattle.array_journal.specs.declared.event.Event.TheVariants.{Diff}
 use Rattle.array_journal.specs.declared.setting.Setting.{Setting}
 use Rattle.blocks_core.specs.Lists.{block_at}
-use Rattle.array_journal.specs.Acts.{Folds}
+use Rattle.array_journal.specs.declared.act.Act.TheVariants.{Folds}
 use Rattle.array_journal.specs.Deltas.{Delta, covers, delta_of, has_acted, puts_row, with_delta, outstanding_in}
 use Rattle.array_journal.specs.Run.{delta_blocks}
 

@@ -3,7 +3,7 @@ use Rattle.std.specs.Prelude.{◌≡◌, ◌&&◌, not, ℕ, ◌+◌, ◌-◌, B
 use Rattle.std.proofs.Common.{refl, ap, sym, ◌∙◌, cond, subst, inl, inr}
 use Rattle.std.proofs.lemmas.Bool.{eq-eqb, cases_Bool, and_from, and_left, both_ways, false≢true, cond-true, cond-false}
 use Rattle.blocks_core.specs.Xor.{xor, xor_all}
-use Rattle.stripe_layout.specs.Layout.{parity_of}
+use Rattle.stripe_layout.specs.Layout.{parity_of, IsRowOf}
 use Rattle.sbc_cdbs.specs.declared.descriptor.Cdb.{Cdb}
 use Rattle.array_journal.specs.declared.at.At.{At}
 use Rattle.array_journal.specs.declared.entry.Entry.{Entry}
@@ -15,10 +15,11 @@ use Rattle.array_journal.specs.declared.task.Task.{Task}
 use Rattle.blocks_core.specs.Lists.{block_at}
 use Rattle.array_journal.specs.Entries.{some_at}
 use Rattle.array_journal.specs.Commands.{is_open, task_of}
-use Rattle.array_journal.specs.Acts.{Diffs, Folds, is_act, task_bytes}
+use Rattle.array_journal.specs.declared.act.Act.TheVariants.{Diffs, Folds}
+use Rattle.array_journal.specs.Acts.{is_act, task_bytes}
 use Rattle.array_journal.specs.Deltas.{Delta, covers, delta_of, has_acted, puts_row, with_delta, outstanding_in, outstanding}
 use Rattle.array_journal.specs.May.{MayTarget, MayFold, SomeTask}
-use Rattle.array_journal.specs.Run.{Grows, IsSetting, IsRowOf, delta_blocks}
+use Rattle.array_journal.specs.Run.{Grows, IsSetting, delta_blocks}
 use Rattle.array_journal.proofs.runs.Standing.{may-here}
 use Rattle.array_journal.proofs.runs.CommandLaws.{named-task, one_task}
 use Rattle.array_journal.proofs.owed.EndedCommands.{act-open}

@@ -1,9 +1,8 @@
 -- Once a command that makes parity anew has put it, nothing is owed on its stripe while it is open, nor at its end.
-use Rattle.std.specs.Prelude.{◌≡◌, ◌≢◌, ◌==◌, ◌&&◌, ◌<◌, ◌≤◌, ◌⊎◌, not, ℕ, ◌+◌, ◌-◌, ◌*◌, Bool, true, false, List, [], ◌∷◌, length, Option, Some, None}
+use Rattle.std.specs.Prelude.{◌≡◌, ◌≢◌, ◌==◌, ◌&&◌, ◌<◌, ◌≤◌, ◌⊎◌, not, ℕ, ◌+◌, ◌-◌, Bool, true, false, List, [], ◌∷◌, length, Option, Some, None}
 use Rattle.std.proofs.Common.{refl, ap, sym, ◌∙◌, cond, arith, subst, inl, inr}
-use Rattle.std.proofs.Math.Nat.{add-mul}
 use Rattle.std.proofs.lemmas.Bool.{eq-eqb, eqb-true, cases_eq, cases_Bool, and_parts, and_left, both_ways, false≢true, cond-false, cond_both}
-use Rattle.stripe_layout.specs.Layout.{parity_of}
+use Rattle.stripe_layout.specs.Layout.{parity_of, IsRowOf, first_row, unit_rows}
 use Rattle.sbc_cdbs.specs.declared.descriptor.Cdb.{Cdb}
 use Rattle.array_journal.specs.declared.at.At.{At}
 use Rattle.array_journal.specs.declared.entry.Entry.{Entry}
@@ -16,12 +15,13 @@ use Rattle.array_journal.specs.declared.task.Task.{Task}
 use Rattle.blocks_core.specs.Lists.{block_at}
 use Rattle.array_journal.specs.Entries.{some_at}
 use Rattle.array_journal.specs.Commands.{opens_command, is_open, task_of, is_shared}
-use Rattle.array_journal.specs.Acts.{Puts, Diffs, Folds, has_act, is_act, task_bytes}
+use Rattle.array_journal.specs.declared.act.Act.TheVariants.{Puts, Diffs, Folds}
+use Rattle.array_journal.specs.Acts.{has_act, is_act, task_bytes}
 use Rattle.array_journal.specs.Lives.{closes_done}
 use Rattle.array_journal.specs.Listed.{makes_parity, renews_parity}
 use Rattle.array_journal.specs.Deltas.{Delta, covers, delta_of, has_acted, puts_row, with_delta, outstanding_in, outstanding}
 use Rattle.array_journal.specs.May.{MayTarget, IsTask, IsTaskOfKind, SomeTask, MayDiff}
-use Rattle.array_journal.specs.Run.{Grows, IsSetting, IsRowOf}
+use Rattle.array_journal.specs.Run.{Grows, IsSetting}
 use Rattle.array_journal.proofs.runs.Standing.{may-book, may-here, some_at-cases}
 use Rattle.array_journal.proofs.runs.CommandLaws.{named-task, ends-open, one_task}
 use Rattle.array_journal.proofs.calm.ActSteps.{has-there}
@@ -38,8 +38,8 @@ use Rattle.array_journal.proofs.owed.EndedUpdates.{closes_renewal, renews_now}
 -- what makes parity anew runs alone, on all rows of its stripe, and puts at the parity target
 pub record IsRenewal (s : Setting) (task : Task) : Type 0 where
   pub alone : is_shared task.kind ≡ false
-  pub from_row : task.row ≡ task.stripe * s.geometry.unit
-  pub all_rows : task.count ≡ s.geometry.unit
+  pub from_row : task.row ≡ first_row s.geometry task.stripe
+  pub all_rows : task.count ≡ unit_rows s.geometry task.stripe
   pub puts : has_act s Puts task (parity_of s.geometry task.stripe) ≡ true
 
 renewal-kind : (s : Setting) (kind : Kind) (task : Task) → IsSetting s → IsTask s task → task.kind ≡ kind → makes_parity kind task ≡ true → IsTaskOfKind s task kind → IsRenewal s task
@@ -73,11 +73,10 @@ renewal-covers s task r set n at =
     covers-from s.geometry.block task.row (task_bytes s task) task.count r set.array.least_block refl low high
   where
     low : task.row ≤ r
-    low = let f : task.row ≡ task.stripe * s.geometry.unit = n.from_row in omega (arith, at.first)
+    low = omega (arith, n.from_row, at.first)
 
     high : r < task.row + task.count
-    high = let f : task.row ≡ task.stripe * s.geometry.unit = n.from_row in let c : task.count ≡ s.geometry.unit = n.all_rows in
-        omega (arith, at.last, add-mul task.stripe 1 s.geometry.unit)
+    high = omega (arith, n.from_row, n.all_rows, at.last)
 
 put-row : (s : Setting) (past : List Entry) (stamp i c r : ℕ) (task : Task) (event : Event) → Grows s past → MayTarget s past stamp i event → is_act Puts c event ≡ true →
     task_of c past ≡ Some task → covers s.geometry.block task.row (task_bytes s task) r ≡ true → puts_row s r event ≡ true

@@ -4,7 +4,7 @@ use Rattle.std.proofs.Common.{refl, ap, sym, ◌∙◌, arith, subst, inl, inr}
 use Rattle.std.proofs.lemmas.Bool.{eq-eqb, ne_eqb, eqb-true, cases_eq, and_parts, both_ways, false≢true}
 use Rattle.blocks_core.specs.Xor.{xor, zeros, xor_all}
 use Rattle.blocks_core.proofs.XorLaws.{xor-assoc, xor-comm, xor-self, xor-delta, xor-swap}
-use Rattle.stripe_layout.specs.Layout.{parity_of}
+use Rattle.stripe_layout.specs.Layout.{parity_of, IsRowOf}
 use Rattle.sbc_cdbs.specs.declared.descriptor.Cdb.{Cdb}
 use Rattle.array_journal.specs.declared.at.At.{At}
 use Rattle.array_journal.specs.declared.entry.Entry.{Entry}
@@ -15,13 +15,14 @@ use Rattle.array_journal.specs.declared.task.Kind.TheVariants.{Update, Rebuild}
 use Rattle.array_journal.specs.declared.task.Task.{Task}
 use Rattle.blocks_core.specs.Lists.{slice, block_at}
 use Rattle.array_journal.specs.Commands.{task_of}
-use Rattle.array_journal.specs.Acts.{Puts, Diffs, Folds, is_act, task_bytes}
+use Rattle.array_journal.specs.declared.act.Act.TheVariants.{Puts, Diffs, Folds}
+use Rattle.array_journal.specs.Acts.{is_act, task_bytes}
 use Rattle.array_journal.specs.Media.{media, medium_after, rows_on}
 use Rattle.array_journal.specs.Host.{is_put_write}
 use Rattle.array_journal.specs.Lives.{is_gone}
 use Rattle.array_journal.specs.Deltas.{Delta, delta_of, puts_row, outstanding}
 use Rattle.array_journal.specs.May.{MayAct, MayPut, MayDiff, MayFold, MayAt, MayTarget, IsTask, IsTaskOfKind}
-use Rattle.array_journal.specs.Run.{IsSetting, Grows, IsRowOf, sectors, delta_blocks}
+use Rattle.array_journal.specs.Run.{IsSetting, Grows, sectors, delta_blocks}
 use Rattle.array_journal.proofs.runs.CommandLaws.{one_task}
 use Rattle.array_journal.proofs.runs.Steps.{media-here, media-else}
 use Rattle.array_journal.proofs.runs.Standing.{may-here}
@@ -270,7 +271,7 @@ diff-over : (s : Setting) (e : Entry) (past : List Entry) (stripe r j i c : ℕ)
 diff-over s e past stripe r j i c opened cdb row bytes sent dropped back task set g kept at q here away m w same own h k old_sum =
     ap (λ (x : List ℕ). xor x (data_sum s (e ∷ past) stripe r)) (parity-else s e past p r away)
     ∙ ap (xor (stands s past p r)) changed
-    ∙ diffed-in s.geometry.block (stands s past p r) old rest new (owed_sum s past stripe r) (length-known s past stripe i r set g.1 at.in_array below other) size_new
+    ∙ diffed-in s.geometry.block (stands s past p r) old rest new (owed_sum s past stripe r) (length-known s past stripe i r set g.1 at below other) size_new
     (ap (xor (stands s past p r)) (sym unchanged) ∙ old_sum)
     ∙ sym (ap (λ (l : List Delta). xor_all s.geometry.block (delta_blocks l))
     (outstanding-diff s stripe r i c opened cdb row bytes sent dropped back e past set g here q (hit-within s task row (length bytes) r j set m.act.at_row m.act.whole h k))

@@ -1,10 +1,9 @@
 -- A data unit that is there stands on its medium as the hosts know it: entry by entry.
-use Rattle.std.specs.Prelude.{◌≡◌, ◌≢◌, ◌<◌, ◌≤◌, ◌⊎◌, ℕ, ◌+◌, ◌-◌, ◌*◌, Bool, true, false, List, ◌∷◌, Some, length}
+use Rattle.std.specs.Prelude.{◌≡◌, ◌≢◌, ◌<◌, ◌⊎◌, ℕ, ◌+◌, ◌-◌, ◌*◌, Bool, true, false, List, ◌∷◌, Some, length}
 use Rattle.std.proofs.Common.{refl, ap, sym, ◌∙◌, arith, subst, inl, inr}
-use Rattle.std.proofs.Math.Nat.{add-mul}
 use Rattle.std.proofs.lemmas.Bool.{eq-eqb, eqb-true, cases_eq, both_ways, false≢true}
 use Rattle.blocks_core.specs.Xor.{xor}
-use Rattle.stripe_layout.specs.Layout.{parity_of}
+use Rattle.stripe_layout.specs.Layout.{parity_of, IsRowOf, first_row, unit_rows}
 use Rattle.sbc_cdbs.specs.declared.descriptor.Cdb.{Cdb}
 use Rattle.array_journal.specs.declared.at.At.{At}
 use Rattle.array_journal.specs.declared.entry.Entry.{Entry}
@@ -15,12 +14,13 @@ use Rattle.array_journal.specs.declared.task.Kind.TheVariants.{Rebuild}
 use Rattle.array_journal.specs.declared.task.Task.{Task}
 use Rattle.blocks_core.specs.Lists.{slice, block_at}
 use Rattle.array_journal.specs.Commands.{task_of, is_shared}
-use Rattle.array_journal.specs.Acts.{Puts, Folds, is_act}
+use Rattle.array_journal.specs.declared.act.Act.TheVariants.{Puts, Folds}
+use Rattle.array_journal.specs.Acts.{is_act}
 use Rattle.array_journal.specs.Media.{media, medium_after}
 use Rattle.array_journal.specs.Host.{is_put_write}
 use Rattle.array_journal.specs.Lives.{is_gone}
 use Rattle.array_journal.specs.May.{MayAct, MayPut, MayDiff, MayFold, MayTarget, IsTask, IsTaskOfKind}
-use Rattle.array_journal.specs.Run.{IsSetting, Grows, IsRowOf}
+use Rattle.array_journal.specs.Run.{IsSetting, Grows}
 use Rattle.array_journal.specs.Laws.{RunsAlone}
 use Rattle.array_journal.proofs.owed.DeltaLaws.{differs-update, folds-update}
 use Rattle.array_journal.proofs.runs.CommandLaws.{one_task}
@@ -63,13 +63,11 @@ not-beside task r j (inr after) h e = omega arith
 
 -- the rows of a rebuild of a unit are all of its stripe
 pub rebuild-rows : (s : Setting) (task : Task) (stripe r : ℕ) → IsTask s task → IsRowOf s.geometry stripe r →
-    (task.row ≡ task.stripe * s.geometry.unit) × (task.count ≡ s.geometry.unit) → task.stripe ≡ stripe → (j : ℕ) × ((j < task.count) × (r ≡ task.row + j))
+    (task.row ≡ first_row s.geometry task.stripe) × (task.count ≡ unit_rows s.geometry task.stripe) → task.stripe ≡ stripe → (j : ℕ) × ((j < task.count) × (r ≡ task.row + j))
 rebuild-rows s task stripe r sound at rows same =
-    let first : task.row ≡ stripe * s.geometry.unit = rows.0 ∙ ap (λ (x : ℕ). x * s.geometry.unit) same in
-    let all : task.count ≡ s.geometry.unit = rows.1 in
-    let low : stripe * s.geometry.unit ≤ r = at.first in
-    let high : r < (stripe + 1) * s.geometry.unit = at.last in
-    (r - task.row, (omega (arith, add-mul stripe 1 s.geometry.unit), omega arith))
+    let first : task.row ≡ first_row s.geometry stripe = rows.0 ∙ ap (first_row s.geometry) same in
+    let all : task.count ≡ unit_rows s.geometry stripe = rows.1 ∙ ap (unit_rows s.geometry) same in
+    (r - task.row, (omega (arith, first, all, at.first, at.last), omega (arith, first, at.first)))
 
 -- a put on the rows of a data unit
 put-within_unit : (s : Setting) (past : List Entry) (stamp lock i c : ℕ) (opened : At) (cdb : Cdb) (row : ℕ) (bytes : List ℕ) (names : List At) (stripe r j : ℕ) (task : Task) →

@@ -6,7 +6,7 @@ use Rattle.std.proofs.lemmas.List.{length-replicate}
 use Rattle.blocks_core.specs.Xor.{xor}
 use Rattle.blocks_core.proofs.XorLaws.{length-xor}
 use Rattle.stripe_layout.specs.declared.mode.Mode.{Mode}
-use Rattle.stripe_layout.specs.Layout.{parity_of, capacity_of, rows_of, lba_at}
+use Rattle.stripe_layout.specs.Layout.{parity_of, capacity_of, rows_of, lba_at, IsRowOf}
 use Rattle.sbc_cdbs.specs.declared.descriptor.Cdb.{Cdb}
 use Rattle.array_journal.specs.declared.at.At.{At}
 use Rattle.array_journal.specs.declared.entry.Entry.{Entry}
@@ -19,11 +19,13 @@ use Rattle.array_journal.specs.declared.task.Task.{Task}
 use Rattle.blocks_core.specs.Lists.{slice, put, block_at}
 use Rattle.blocks_core.proofs.BlockLists.{length-slice, length-put, length-block_at, block_at-put_in, block_at-put_out}
 use Rattle.array_journal.specs.Commands.{is_open, task_of}
-use Rattle.array_journal.specs.Acts.{Act, Puts, Diffs, Folds, acts_at, has_act, is_act, task_bytes}
+use Rattle.array_journal.specs.declared.act.Act.{Act}
+use Rattle.array_journal.specs.declared.act.Act.TheVariants.{Puts, Diffs, Folds}
+use Rattle.array_journal.specs.Acts.{acts_at, has_act, is_act, task_bytes}
 use Rattle.array_journal.specs.Media.{media, medium_after}
 use Rattle.array_journal.specs.Host.{unit_at, task_lba, is_read, is_degraded_read, is_put_write, read_item, wrote_item, told_by, teller, teller_task, host, plain}
 use Rattle.array_journal.specs.May.{MayAct, MayAt, MayTarget, IsTask, IsTaskOfKind}
-use Rattle.array_journal.specs.Run.{IsSetting, Grows, IsRowOf, sectors}
+use Rattle.array_journal.specs.Run.{IsSetting, Grows, sectors}
 pub use Rattle.array_journal.specs.Known.{known_in, known}
 use Rattle.array_journal.proofs.owed.DeltaLaws.{differs-update}
 use Rattle.array_journal.proofs.runs.Steps.{media-here, media-else}
@@ -241,24 +243,24 @@ sector-step s past stamp (suc i) (Close command done names cause bytes) g m = ab
 sector-step s past stamp (suc i) _ g m = tells_none refl
 
 -- the size of the sectors
-sectors-size : (s : Setting) (past : List Entry) → Grows s past → length (sectors s.geometry past) ≡ capacity_of s.geometry * s.geometry.block
-sectors-size s [] g = length-replicate (capacity_of s.geometry * s.geometry.block) 0
-sectors-size s (e ∷ past) g = by (sector-step s past e.stamp e.lock e.event g.1 g.0.1.1) (sectors-size s past g.1)
+sectors-size : (s : Setting) (past : List Entry) → IsSetting s → Grows s past → length (sectors s.geometry past) ≡ capacity_of s.geometry * s.geometry.block
+sectors-size s [] set g = length-replicate (capacity_of s.geometry * s.geometry.block) 0
+sectors-size s (e ∷ past) set g = by (sector-step s past e.stamp e.lock e.event g.1 g.0.1.1) (sectors-size s past set g.1)
   where
     by : SectorStep s past e.lock e.event → length (sectors s.geometry past) ≡ capacity_of s.geometry * s.geometry.block →
         length (sectors s.geometry (e ∷ past)) ≡ capacity_of s.geometry * s.geometry.block
     by (tells_none same) old = ap length same ∙ old
     by (tells_write c task w) old =
         let fit : task_lba s.geometry task * s.geometry.block + task_bytes s task ≤ capacity_of s.geometry * s.geometry.block =
-        lba-fit_bytes s task w.sound w.not_parity in
+        lba-fit_bytes s task set w.sound w.not_parity in
         let size : length task.bytes ≡ task_bytes s task = w.size in
         ap length w.written ∙ length-put (sectors s.geometry past) (task_lba s.geometry task * s.geometry.block) task.bytes (omega arith) ∙ old
 
-pub length-known : (s : Setting) (past : List Entry) (stripe i r : ℕ) → IsSetting s → Grows s past → stripe < s.geometry.stripes → i < s.geometry.targets →
+pub length-known : (s : Setting) (past : List Entry) (stripe i r : ℕ) → IsSetting s → Grows s past → IsRowOf s.geometry stripe r → i < s.geometry.targets →
     i ≢ parity_of s.geometry stripe → length (known s past stripe i r) ≡ s.geometry.block
 length-known s past stripe i r set g at below other =
     length-block_at s.geometry.block (sectors s.geometry past) (lba_at s.geometry stripe (unit_at (parity_of s.geometry stripe) i) r) (capacity_of s.geometry)
-    (omega (arith, sectors-size s past g))
+    (omega (arith, sectors-size s past set g))
     (lba_at-below s stripe (unit_at (parity_of s.geometry stripe) i) r set at
     (unit_at-below (parity_of s.geometry stripe) i s.geometry.targets other below (parity_of-below s stripe set)))
 
@@ -285,7 +287,7 @@ known-written s past c task lock event j set g w h =
     placed = IsPlaced-task s task w.sound w.not_parity
 
     fit : task_lba s.geometry task * s.geometry.block ≤ length (sectors s.geometry past)
-    fit = omega (arith, lba-fit_bytes s task w.sound w.not_parity, sectors-size s past g)
+    fit = omega (arith, lba-fit_bytes s task set w.sound w.not_parity, sectors-size s past set g)
 
 -- and of no others
 pub known-beside : (s : Setting) (past : List Entry) (c : ℕ) (task : Task) (lock : ℕ) (event : Event) (stripe i r : ℕ) → IsSetting s → Grows s past →
@@ -301,7 +303,7 @@ known-beside s past c task lock event stripe i r set g w at below other apart =
     placed = IsPlaced-task s task w.sound w.not_parity
 
     fit : task_lba s.geometry task * s.geometry.block ≤ length (sectors s.geometry past)
-    fit = omega (arith, lba-fit_bytes s task w.sound w.not_parity, sectors-size s past g)
+    fit = omega (arith, lba-fit_bytes s task set w.sound w.not_parity, sectors-size s past set g)
 
     unit : unit_at (parity_of s.geometry stripe) i < s.geometry.targets - 1
     unit = unit_at-below (parity_of s.geometry stripe) i s.geometry.targets other below (parity_of-below s stripe set)
@@ -313,7 +315,7 @@ known-beside s past c task lock event stripe i r set g w at below other apart =
 
     by_row : Falls task r → IsBeside (task_lba s.geometry task) task.count (lba_at s.geometry stripe (unit_at (parity_of s.geometry stripe) i) r)
     by_row (Within j h e) =
-        lba_at-other_unit s task stripe (unit_at (parity_of s.geometry stripe) i) r set placed unit (λ same own. apart same (same_target same own) j h e)
+        lba_at-other_unit s task stripe (unit_at (parity_of s.geometry stripe) i) r set placed at unit (λ same own. apart same (same_target same own) j h e)
     by_row (Beside beside) = lba_at-other_row s task stripe (unit_at (parity_of s.geometry stripe) i) r set placed at unit beside
 
 -- what a put leaves of the blocks of a medium: those of the task's rows, and the others

@@ -12,7 +12,7 @@ use Rattle.array_journal.specs.declared.task.Kind.{Kind}
 use Rattle.array_journal.specs.declared.task.Kind.TheVariants.{Read, Update, DegradedRead}
 use Rattle.array_journal.specs.declared.task.Task.{Task}
 use Rattle.array_journal.specs.Commands.{task_of, is_shared}
-use Rattle.array_journal.specs.Acts.{Fetches}
+use Rattle.array_journal.specs.declared.act.Act.TheVariants.{Fetches}
 use Rattle.array_journal.specs.Host.{is_read, is_degraded_read, is_put_write, read_item, wrote_item, told_by, teller, teller_task, host, Legal}
 use Rattle.array_journal.specs.May.{MayFetch, MayAt, MayClose, IsOpenWith}
 use Rattle.array_journal.specs.Run.{IsSetting, Grows}

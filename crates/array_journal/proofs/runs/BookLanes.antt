@@ -15,7 +15,11 @@ use Rattle.array_journal.specs.Acts.{is_target}
 use Rattle.array_journal.specs.Commands.{tasks_conflict}
 use Rattle.array_journal.specs.Listed.{is_listed}
 use Rattle.array_journal.specs.Lives.{is_missing, is_unfitted}
-use Rattle.array_journal.specs.Decision.{Want, WantsRead, WantsWrite, WantsRebuild, WantsResync, Decision, Opens, Refuses, decision, missing_count, opens_conflict, holder_of, holds_at, count_of, held_count, has_room_at, has_room}
+use Rattle.array_journal.specs.declared.decision.Want.{Want}
+use Rattle.array_journal.specs.declared.decision.Want.TheVariants.{Read as WantsRead, Write as WantsWrite, Rebuild as WantsRebuild, Resync as WantsResync}
+use Rattle.array_journal.specs.declared.decision.Decision.{Decision}
+use Rattle.array_journal.specs.declared.decision.Decision.TheVariants.{Opens, Refuses}
+use Rattle.array_journal.specs.Decision.{decision, missing_count, opens_conflict, holder_of, holds_at, count_of, held_count, has_room_at, has_room}
 use Rattle.array_journal.specs.May.{opens_at}
 use Rattle.array_journal.specs.Laws.{lane}
 use Rattle.array_journal.proofs.runs.LaneLaws.{lane-fold, some_at-lane, is_open-lane, is_unfitted-lane, is_missing-lane, listed_for-lane}

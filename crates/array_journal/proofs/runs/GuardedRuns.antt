@@ -2,7 +2,6 @@
 use Rattle.std.specs.Prelude.{List, [], ◌∷◌, reverse}
 use Rattle.array_journal.specs.declared.entry.Entry.{Entry}
 use Rattle.array_journal.specs.declared.setting.Setting.{Setting}
-use Rattle.array_journal.specs.May.{May}
 use Rattle.array_journal.specs.Run.{Grows}
 use Rattle.array_journal.specs.Guarded.{EachAfter, IsUndisturbing, IsOfOpenCommand, LeavesAbsent, IsOnPresent, GuardedLaw}
 use Rattle.array_journal.proofs.runs.RunLaws.{undisturbed_law, no_act_after_end_law, one_end_law, absent_law, present_law}

@@ -1,7 +1,7 @@
 -- A rule that numbered all entries would part two views of one journal.
 use Rattle.std.proofs.Common.{refl, lit<}
 use Rattle.sbc_cdbs.specs.declared.descriptor.Cdb.{Cdb}
-use Rattle.array_journal.specs.Acts.{Diffs}
+use Rattle.array_journal.specs.declared.act.Act.TheVariants.{Diffs}
 use Rattle.array_journal.specs.May.{May, MayAct}
 use Rattle.array_journal.specs.ExampleJournals.{small, at, write_task, SpellsAct}
 use Rattle.array_journal.specs.Joined.{long_view, written_block, NumbersPartViews}

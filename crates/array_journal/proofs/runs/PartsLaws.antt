@@ -12,7 +12,9 @@ use Rattle.array_journal.specs.declared.task.Kind.{Kind}
 use Rattle.array_journal.specs.declared.task.Kind.TheVariants.{DegradedRead, Rebuild}
 use Rattle.array_journal.specs.declared.task.Task.{Task}
 use Rattle.array_journal.specs.Entries.{entry_at}
-use Rattle.array_journal.specs.Acts.{Act, Fetches, targets_that, is_target, is_act}
+use Rattle.array_journal.specs.declared.act.Act.{Act}
+use Rattle.array_journal.specs.declared.act.Act.TheVariants.{Fetches}
+use Rattle.array_journal.specs.Acts.{targets_that, is_target, is_act}
 use Rattle.array_journal.specs.Lives.{is_loss, swap_count}
 use Rattle.array_journal.specs.May.{MayAt, MayBook, MayTarget, MayAct, MayClose, MaySpoil, Names, NamesAt, NamesActs, EachOwn, IsCause, IsCauseOfKind, IsCauseOfLoss, passes, fetched_targets, is_loss_in, is_wipe_of, shuts_idle, is_dropped_diff, discards}
 use Rattle.array_journal.specs.Parts.{Named, NamedAt, EachNamed, AskedAct, FoundAct, NamedActs, AskedClose, AskedSpoil, FoundLoss, FoundCause, FoundCauseOfKind, FoundClose, Asked, AskedBook, AskedTarget, Found, FoundBook, FoundTarget, is_cause_of, named_by, with_cause, AllEarlier, MayHasParts, PartsGiveMay}

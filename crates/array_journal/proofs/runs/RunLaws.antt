@@ -8,7 +8,9 @@ use Rattle.array_journal.specs.declared.event.Event.{Event}
 use Rattle.array_journal.specs.declared.event.Event.TheVariants.{Fetch, Put, Diff, Take, Fold, Hold, Fresh, Close, Spoil}
 use Rattle.array_journal.specs.declared.setting.Setting.{Setting}
 use Rattle.array_journal.specs.Commands.{ends_command, is_open}
-use Rattle.array_journal.specs.Acts.{Act, Fetches, Puts, Diffs, Takes, Folds, Holds, is_act}
+use Rattle.array_journal.specs.declared.act.Act.{Act}
+use Rattle.array_journal.specs.declared.act.Act.TheVariants.{Fetches, Puts, Diffs, Takes, Folds, Holds}
+use Rattle.array_journal.specs.Acts.{is_act}
 use Rattle.array_journal.specs.Lives.{is_fresh, is_gone, is_missing, is_absent, is_unfitted, swap_count}
 use Rattle.array_journal.specs.May.{MayAt, MayTarget, MayBook}
 use Rattle.array_journal.specs.Run.{Grows}

@@ -18,7 +18,9 @@ use Rattle.array_journal.specs.declared.task.Task.{Task}
 use Rattle.blocks_core.specs.Lists.{slice}
 use Rattle.array_journal.specs.Entries.{entry_at, some_at, count_before, stamps_below}
 use Rattle.array_journal.specs.Commands.{opens, open_count, is_open, task_of}
-use Rattle.array_journal.specs.Acts.{Act, Fetches, Puts, Diffs, Takes, Folds, Holds, is_target, targets_that, task_bytes, is_act, shuts_command, changes_medium}
+use Rattle.array_journal.specs.declared.act.Act.{Act}
+use Rattle.array_journal.specs.declared.act.Act.TheVariants.{Fetches, Puts, Diffs, Takes, Folds, Holds}
+use Rattle.array_journal.specs.Acts.{is_target, targets_that, task_bytes, is_act, shuts_command, changes_medium}
 use Rattle.xor_buffers.specs.Held.{rows_held, owners_of}
 use Rattle.array_journal.specs.Media.{rows_on, held, drops}
 use Rattle.array_journal.specs.Lives.{is_fresh, is_gone, loss_of, life_of, swap_count, is_swap_of, is_unfitted}

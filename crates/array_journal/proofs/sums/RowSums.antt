@@ -6,7 +6,7 @@ use Rattle.std.proofs.lemmas.Bool.{eq-eqb, eqb-true, or_left, or_right}
 use Rattle.std.proofs.lemmas.List.{length-replicate}
 use Rattle.blocks_core.specs.Xor.{xor, zeros, xor_all}
 use Rattle.blocks_core.proofs.XorLaws.{xor-self}
-use Rattle.stripe_layout.specs.Layout.{parity_of, lba_at}
+use Rattle.stripe_layout.specs.Layout.{parity_of, lba_at, IsRowOf}
 use Rattle.sbc_cdbs.specs.declared.descriptor.Cdb.{Cdb}
 use Rattle.array_journal.specs.declared.at.At.{At}
 use Rattle.array_journal.specs.declared.entry.Entry.{Entry}
@@ -17,12 +17,13 @@ use Rattle.array_journal.specs.declared.task.Task.{Task}
 use Rattle.blocks_core.specs.Lists.{block_at}
 use Rattle.array_journal.specs.Lists.{numbers}
 use Rattle.array_journal.specs.Commands.{task_of, is_shared}
-use Rattle.array_journal.specs.Acts.{Puts, Diffs, is_act, task_bytes}
+use Rattle.array_journal.specs.declared.act.Act.TheVariants.{Puts, Diffs}
+use Rattle.array_journal.specs.Acts.{is_act, task_bytes}
 use Rattle.array_journal.specs.Media.{media, medium_after}
 use Rattle.array_journal.specs.Host.{is_put_write}
 use Rattle.array_journal.specs.Deltas.{Delta, covers, puts_row, outstanding}
 use Rattle.array_journal.specs.May.{MayPut, MayTarget, IsTask}
-use Rattle.array_journal.specs.Run.{IsSetting, Grows, IsRowOf, sectors, delta_blocks}
+use Rattle.array_journal.specs.Run.{IsSetting, Grows, sectors, delta_blocks}
 use Rattle.array_journal.proofs.runs.CommandLaws.{one_task}
 use Rattle.array_journal.proofs.runs.Steps.{media-here}
 use Rattle.array_journal.proofs.sums.LayoutLaws.{IsBeside}
@@ -115,7 +116,7 @@ same-sum s e past stripe r p d o old =
     ∙ sym (ap (λ (l : List Delta). xor_all s.geometry.block (delta_blocks l)) o)
 
 -- parity is written anew as the data, and nothing is outstanding
-renewed-sum : (s : Setting) (e : Entry) (past : List Entry) (stripe r : ℕ) → IsSetting s → Grows s (e ∷ past) → stripe < s.geometry.stripes →
+renewed-sum : (s : Setting) (e : Entry) (past : List Entry) (stripe r : ℕ) → IsSetting s → Grows s (e ∷ past) → IsRowOf s.geometry stripe r →
     stands s (e ∷ past) (parity_of s.geometry stripe) r ≡ data_sum s (e ∷ past) stripe r → outstanding s (e ∷ past) stripe r ≡ [] →
     xor (stands s (e ∷ past) (parity_of s.geometry stripe) r) (data_sum s (e ∷ past) stripe r) ≡ owed_sum s (e ∷ past) stripe r
 renewed-sum s e past stripe r set g at p o =
@@ -168,7 +169,7 @@ pub put-over : (s : Setting) (e : Entry) (past : List Entry) (stripe c : ℕ) (o
     MayPut s past e.stamp (parity_of s.geometry stripe) c opened cdb row bytes names task → IsRowOf s.geometry stripe r → j < task.count → r ≡ task.row + j →
     xor (stands s (e ∷ past) (parity_of s.geometry stripe) r) (data_sum s (e ∷ past) stripe r) ≡ owed_sum s (e ∷ past) stripe r
 put-over s e past stripe c opened cdb row bytes names r j task set g kept q here may m at h k =
-    renewed-sum s e past stripe r set g at.in_array
+    renewed-sum s e past stripe r set g at
     (parity-here s e past p r (Put c opened cdb row bytes names) here q
     ∙ ap (block_at s.geometry.block (medium_after s (Put c opened cdb row bytes names) (media s p past))) k
     ∙ put-within s (media s p past) bytes task row j sound m.act.at_row m.act.whole (media-size s p past g.1) h

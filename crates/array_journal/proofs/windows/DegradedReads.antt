@@ -20,7 +20,9 @@ use Rattle.array_journal.specs.declared.task.Task.{Task}
 use Rattle.blocks_core.specs.Lists.{slice, block_at}
 use Rattle.array_journal.specs.Entries.{entry_at}
 use Rattle.array_journal.specs.Commands.{task_of}
-use Rattle.array_journal.specs.Acts.{Act, Fetches, Puts, Diffs, Takes, Folds, Holds, gatherer, acts_at, has_act, is_act, task_bytes}
+use Rattle.array_journal.specs.declared.act.Act.{Act}
+use Rattle.array_journal.specs.declared.act.Act.TheVariants.{Fetches, Puts, Diffs, Takes, Folds, Holds}
+use Rattle.array_journal.specs.Acts.{gatherer, acts_at, has_act, is_act, task_bytes}
 use Rattle.array_journal.specs.Host.{unit_at, task_lba}
 use Rattle.array_journal.specs.May.{MayAct, MayFetch, MayCloseWhole, EachOwn, NamesActs, is_own_act, is_named, passes, bytes_of, bytes_named, first_taken, answered, taken, closed_bytes, IsTask, IsTaskOfKind}
 use Rattle.array_journal.specs.Run.{IsSetting, Grows, sectors}
@@ -189,7 +191,7 @@ gathered-right s past stamp c task names set g kept alone k t a =
     ∙ sum-tests s.geometry.block (has_act s Fetches task) (λ x. not (x == task.target)) (λ i. view s past task.stripe i (task.row + j)) s.geometry.targets 0
     (λ x low high. fetches-test s task DegradedRead x k (omega arith)
     ∙ ap (λ (b : Bool). not (x == task.target) && not (b && (x == gatherer task))) t ∙ and_true (not (x == task.target)))
-    ∙ others-known s past task.stripe task.target (task.row + j) set g sound.in_array sound.target (λ e. other (e ∙ sym sound.parity)))
+    ∙ others-known s past task.stripe task.target (task.row + j) set g (task_row s task j sound h) sound.target (λ e. other (e ∙ sym sound.parity)))
   where
     sound : IsTask s task
     sound = task-sound s c task past g alone.its_task

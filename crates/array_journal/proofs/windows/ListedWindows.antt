@@ -16,7 +16,8 @@ use Rattle.array_journal.specs.declared.task.Task.{Task}
 use Rattle.array_journal.specs.Commands.{opens_command, is_open, task_of, is_shared}
 use Rattle.array_journal.specs.Lives.{is_missing, is_unfitted}
 use Rattle.array_journal.specs.Listed.{renews_parity, has_stripe, listed_after, listed_for, is_listed}
-use Rattle.array_journal.specs.Decision.{Opens, Refuses, want_of, missing_count, decision}
+use Rattle.array_journal.specs.declared.decision.Decision.TheVariants.{Opens, Refuses}
+use Rattle.array_journal.specs.Decision.{want_of, missing_count, decision}
 use Rattle.array_journal.specs.May.{MayBook, MayOpen, IsTask}
 use Rattle.array_journal.specs.Run.{Grows}
 use Rattle.array_journal.proofs.runs.CommandLaws.{one_task}

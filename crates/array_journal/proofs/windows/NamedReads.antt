@@ -12,7 +12,9 @@ use Rattle.array_journal.specs.declared.setting.Setting.{Setting}
 use Rattle.array_journal.specs.declared.task.Task.{Task}
 use Rattle.array_journal.specs.Entries.{entry_at, at_lt, some_at}
 use Rattle.array_journal.specs.Commands.{task_of}
-use Rattle.array_journal.specs.Acts.{Act, Fetches, Takes, has_act, is_act, task_bytes}
+use Rattle.array_journal.specs.declared.act.Act.{Act}
+use Rattle.array_journal.specs.declared.act.Act.TheVariants.{Fetches, Takes}
+use Rattle.array_journal.specs.Acts.{has_act, is_act, task_bytes}
 use Rattle.array_journal.specs.May.{MayTarget, Rise, passes, bytes_of, bytes_named}
 use Rattle.array_journal.specs.Run.{Grows}
 use Rattle.array_journal.proofs.runs.Steps.{entry_at-here}

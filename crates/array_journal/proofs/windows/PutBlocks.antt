@@ -17,7 +17,8 @@ use Rattle.array_journal.specs.declared.task.Kind.TheVariants.{DataOnly, Degrade
 use Rattle.array_journal.specs.declared.task.Task.{Task}
 use Rattle.blocks_core.specs.Lists.{block_at}
 use Rattle.array_journal.specs.Lists.{numbers}
-use Rattle.array_journal.specs.Acts.{Fetches, has_act, acts_at, is_act, task_bytes}
+use Rattle.array_journal.specs.declared.act.Act.TheVariants.{Fetches}
+use Rattle.array_journal.specs.Acts.{has_act, acts_at, is_act, task_bytes}
 use Rattle.array_journal.specs.May.{MayPut, NamesAt, fetched_targets, bytes_named, IsTask, IsTaskOfKind}
 use Rattle.array_journal.specs.Run.{IsSetting, Grows}
 use Rattle.array_journal.specs.Laws.{RunsAlone}
@@ -52,7 +53,7 @@ put-unit s past stamp i c j opened cdb row bytes names task set g kept alone m k
     put-sum s past stamp i c j opened cdb row bytes names task kept alone m rebuild.2 h
     ∙ sum-tests s.geometry.block (has_act s Fetches task) (λ x. not (x == task.target)) (λ x. view s past task.stripe x (task.row + j)) s.geometry.targets 0
     (λ x low high. fetches-test s task Rebuild x k (omega arith))
-    ∙ others-known s past task.stripe task.target (task.row + j) set g sound.in_array sound.target other
+    ∙ others-known s past task.stripe task.target (task.row + j) set g (task_row s task j sound h) sound.target other
 
 -- a rebuild of the parity unit, and a resync
 pub put-parity : (s : Setting) (past : List Entry) (stamp i c j : ℕ) (opened : At) (cdb : Cdb) (row : ℕ) (bytes : List ℕ) (names : List At) (task : Task) → IsSetting s →

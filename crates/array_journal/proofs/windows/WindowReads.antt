@@ -6,7 +6,7 @@ use Rattle.std.proofs.lemmas.Bool.{eq-eqb, ne_eqb, eqb-true, eqb-false, ltb-true
 use Rattle.blocks_core.specs.Xor.{xor, xor_all}
 use Rattle.stripe_layout.specs.declared.mode.Mode.{Mode}
 use Rattle.stripe_layout.specs.Modes.{target_gathers}
-use Rattle.stripe_layout.specs.Layout.{parity_of}
+use Rattle.stripe_layout.specs.Layout.{parity_of, IsRowOf}
 use Rattle.sbc_cdbs.specs.declared.descriptor.Cdb.{Cdb}
 use Rattle.array_journal.specs.declared.at.At.{At}
 use Rattle.array_journal.specs.declared.entry.Entry.{Entry}
@@ -19,13 +19,15 @@ use Rattle.array_journal.specs.declared.task.Task.{Task}
 use Rattle.blocks_core.specs.Lists.{slice, block_at}
 use Rattle.array_journal.specs.Entries.{entry_at}
 use Rattle.array_journal.specs.Commands.{is_shared}
-use Rattle.array_journal.specs.Acts.{Act, Fetches, Holds, gatherer, acts_at, has_act, is_act, task_bytes}
+use Rattle.array_journal.specs.declared.act.Act.{Act}
+use Rattle.array_journal.specs.declared.act.Act.TheVariants.{Fetches, Holds}
+use Rattle.array_journal.specs.Acts.{gatherer, acts_at, has_act, is_act, task_bytes}
 use Rattle.array_journal.specs.Media.{media, rows_on}
 use Rattle.array_journal.specs.Lives.{is_absent}
 use Rattle.array_journal.specs.Listed.{listed_for}
 use Rattle.array_journal.specs.Deltas.{outstanding}
 use Rattle.array_journal.specs.May.{MayAct, MayTarget, MayFetch, MayHold, NamesFetches, passes, bytes_of, bytes_named, IsTask, IsTaskOfKind}
-use Rattle.array_journal.specs.Run.{IsSetting, Grows, IsRowOf, delta_blocks}
+use Rattle.array_journal.specs.Run.{IsSetting, Grows, delta_blocks}
 use Rattle.array_journal.specs.Laws.{RunsAlone}
 use Rattle.array_journal.proofs.sums.LayoutLaws.{task_row}
 use Rattle.array_journal.proofs.owed.OwedLaws.{window-owes_nothing}
@@ -172,7 +174,7 @@ seen s past stamp i c opened cdb row len sources r task act set g kept alone a b
         let none : outstanding s past task.stripe r ≡ [] = window-owes_nothing s c r task past set g alone at (unlisted parity, there) in
         ap (λ (x : ℕ). stands s past x r) parity
         ∙ cancelled-same s.geometry.block (stands s past p r) (data_sum s past task.stripe r) (length-stands s past task.stripe p r g at)
-        (length-data_sum s past task.stripe r set g at.in_array)
+        (length-data_sum s past task.stripe r set g at)
         (kept.summed task.stripe r at (is_present there) ∙ ap (λ l. xor_all s.geometry.block (delta_blocks l)) none)
         ∙ sym (view-parity s past task.stripe i r parity)
 
@@ -247,7 +249,7 @@ hold-gathers s past stamp i c j opened cdb row bytes kept_here names back task s
     ∙ ap (λ (y : ℕ). not (x == task.target) && not (x == y)) (sym holds.gathers)))
     ∙ sym (sum-apart s.geometry.block (λ x. not (x == task.target)) (λ x. view s past task.stripe x (task.row + j)) i s.geometry.targets 0 (omega arith) (omega (arith, below))
     (ap not (ne_eqb i task.target other)))
-    ∙ others-known s past task.stripe task.target (task.row + j) set g sound.in_array sound.target not_parity
+    ∙ others-known s past task.stripe task.target (task.row + j) set g (task_row s task j sound h) sound.target not_parity
   where
     sound : IsTask s task
     sound = task-sound s c task past g alone.its_task

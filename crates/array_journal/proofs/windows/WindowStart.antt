@@ -4,7 +4,7 @@ use Rattle.std.specs.List.{AllByRecursion}
 use Rattle.std.proofs.Common.{refl, ap, sym, ◌∙◌, subst, cond}
 use Rattle.std.proofs.lemmas.Bool.{false≢true}
 use Rattle.blocks_core.specs.Xor.{xor_all}
-use Rattle.stripe_layout.specs.Layout.{parity_of, lba_at}
+use Rattle.stripe_layout.specs.Layout.{parity_of, lba_at, IsRowOf}
 use Rattle.array_journal.specs.declared.at.At.{At}
 use Rattle.array_journal.specs.declared.entry.Entry.{Entry}
 use Rattle.array_journal.specs.declared.event.Event.{Event}
@@ -15,10 +15,12 @@ use Rattle.blocks_core.specs.Lists.{block_at}
 use Rattle.array_journal.specs.Lists.{numbers}
 use Rattle.array_journal.specs.Entries.{name_of, same_at, entry_at}
 use Rattle.array_journal.specs.Commands.{task_of}
-use Rattle.array_journal.specs.Acts.{Act, Fetches, Puts, Diffs, has_act, is_act}
+use Rattle.array_journal.specs.declared.act.Act.{Act}
+use Rattle.array_journal.specs.declared.act.Act.TheVariants.{Fetches, Puts, Diffs}
+use Rattle.array_journal.specs.Acts.{has_act, is_act}
 use Rattle.array_journal.specs.Deltas.{Delta, outstanding}
 use Rattle.array_journal.specs.May.{IsTask}
-use Rattle.array_journal.specs.Run.{Grows, IsSetting, IsRowOf}
+use Rattle.array_journal.specs.Run.{Grows, IsSetting}
 use Rattle.array_journal.specs.Laws.{RunsAlone, entries_before}
 use Rattle.array_journal.specs.Known.{known_in, view, WindowReadsLaw, IsOfUpdate, UpdatesOweLaw}
 use Rattle.array_journal.proofs.runs.Standing.{some-named}

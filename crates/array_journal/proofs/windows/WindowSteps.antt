@@ -11,7 +11,9 @@ use Rattle.array_journal.specs.declared.task.Task.{Task}
 use Rattle.blocks_core.specs.Lists.{block_at}
 use Rattle.array_journal.specs.Entries.{entry_at, some_at}
 use Rattle.array_journal.specs.Commands.{opens_command, task_of}
-use Rattle.array_journal.specs.Acts.{Act, Fetches, Holds, has_act, is_act}
+use Rattle.array_journal.specs.declared.act.Act.{Act}
+use Rattle.array_journal.specs.declared.act.Act.TheVariants.{Fetches, Holds}
+use Rattle.array_journal.specs.Acts.{has_act, is_act}
 use Rattle.array_journal.specs.May.{MayTarget, MayHold, passes, bytes_of, bytes_named, IsTask}
 use Rattle.array_journal.specs.Run.{IsSetting, Grows}
 use Rattle.array_journal.specs.Laws.{RunsAlone}

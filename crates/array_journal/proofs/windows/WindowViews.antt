@@ -6,7 +6,7 @@ use Rattle.std.proofs.lemmas.Bool.{eq-eqb, ne_eqb, eqb-false, cases_eq, and_part
 use Rattle.std.proofs.lemmas.List.{length-replicate}
 use Rattle.blocks_core.specs.Xor.{xor, zeros, xor_all}
 use Rattle.blocks_core.proofs.XorLaws.{xor-undone, length-xor, xor-zeros_l}
-use Rattle.stripe_layout.specs.Layout.{parity_of, lba_at, target_of_unit}
+use Rattle.stripe_layout.specs.Layout.{parity_of, lba_at, target_of_unit, IsRowOf}
 use Rattle.array_journal.specs.declared.at.At.{At}
 use Rattle.array_journal.specs.declared.entry.Entry.{Entry}
 use Rattle.array_journal.specs.declared.event.Event.{Event}
@@ -17,7 +17,7 @@ use Rattle.array_journal.specs.Lists.{numbers}
 use Rattle.array_journal.specs.Entries.{entry_at}
 use Rattle.array_journal.specs.Commands.{task_of}
 use Rattle.array_journal.specs.May.{NamesAt, passes, bytes_named}
-use Rattle.array_journal.specs.Run.{IsSetting, Grows, IsRowOf, sectors}
+use Rattle.array_journal.specs.Run.{IsSetting, Grows, sectors}
 use Rattle.array_journal.specs.Laws.{RunsAlone}
 pub use Rattle.array_journal.specs.Known.{data_sum, view}
 use Rattle.array_journal.proofs.runs.CommandLaws.{one_task}
@@ -72,7 +72,7 @@ length-sum b test f (suc m) first sizes = choose (test first) refl (length-sum b
 pub is-data : (s : Setting) (stripe i : ℕ) → is_data s stripe i ≡ true → i ≢ parity_of s.geometry stripe
 is-data s stripe i h = eqb-false i (parity_of s.geometry stripe) (not-true (i == parity_of s.geometry stripe) h)
 
-pub length-data_sum : (s : Setting) (past : List Entry) (stripe r : ℕ) → IsSetting s → Grows s past → stripe < s.geometry.stripes →
+pub length-data_sum : (s : Setting) (past : List Entry) (stripe r : ℕ) → IsSetting s → Grows s past → IsRowOf s.geometry stripe r →
     length (data_sum s past stripe r) ≡ s.geometry.block
 length-data_sum s past stripe r set g at =
     ap length (data-by_targets s (sectors s.geometry past) stripe r set)
@@ -80,7 +80,7 @@ length-data_sum s past stripe r set g at =
     (λ x low high t. length-known s past stripe x r set g at (omega arith) (is-data s stripe x t))
 
 -- the other targets of a stripe, parity among them, give a data unit
-pub others-known : (s : Setting) (past : List Entry) (stripe d r : ℕ) → IsSetting s → Grows s past → stripe < s.geometry.stripes → d < s.geometry.targets →
+pub others-known : (s : Setting) (past : List Entry) (stripe d r : ℕ) → IsSetting s → Grows s past → IsRowOf s.geometry stripe r → d < s.geometry.targets →
     d ≢ parity_of s.geometry stripe →
     sum_where s.geometry.block (λ i. not (i == d)) (λ i. view s past stripe i r) 0 s.geometry.targets ≡ known s past stripe d r
 others-known s past stripe d r set g at below other =
