@@ -5,7 +5,10 @@ use Rattle.array_journal.specs.declared.entry.Entry.{Entry}
 use Rattle.array_journal.specs.declared.event.Why.TheVariants.{Medium, NotReady, Unfitted, Present, Listed, Second, Clean, Absent}
 use Rattle.array_journal.specs.declared.setting.Setting.{Setting}
 use Rattle.array_journal.specs.declared.task.Kind.TheVariants as kinds
-use Rattle.array_journal.specs.Decision.{Decision, decision, WantsRead, WantsWrite, WantsRebuild, WantsResync, Opens, Refuses}
+use Rattle.array_journal.specs.declared.decision.Want.TheVariants.{Read as WantsRead, Write as WantsWrite, Rebuild as WantsRebuild, Resync as WantsResync}
+use Rattle.array_journal.specs.declared.decision.Decision.{Decision}
+use Rattle.array_journal.specs.declared.decision.Decision.TheVariants.{Opens, Refuses}
+use Rattle.array_journal.specs.Decision.{decision}
 use Rattle.array_book.specs.declared.decision.Facts.{Facts}
 use Rattle.array_book.specs.Decisions.{facts_of}
 

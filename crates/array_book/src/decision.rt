@@ -7,40 +7,11 @@ ghost use Rattle.array_journal.specs.declared.entry.Entry.{Entry};
 ghost use Rattle.array_journal.specs.declared.event.Why.TheVariants.{Medium, NotReady, Unfitted, Present, Listed, Second, Clean, Absent};
 ghost use Rattle.array_journal.specs.declared.setting.Setting.{Setting};
 ghost use Rattle.array_journal.specs.declared.task.Kind.TheVariants as kinds;
-ghost use Rattle.array_journal.specs.Decision.{decision, want_of, Opens, Refuses};
-ghost use Rattle.array_book.specs.Decisions.{decision_of, facts_of, want_for};
+ghost use Rattle.array_journal.specs.declared.decision.Decision.TheVariants.{Opens, Refuses};
+ghost use Rattle.array_journal.specs.Decision.{decision};
+ghost use Rattle.array_book.specs.Decisions.{facts_of};
 
-use array_journal::{Kind, Why};
-
-/// What a piece wants: to read or write blocks, to rebuild a unit, to make parity anew.
-#[derive(Clone, Copy, Debug, PartialEq, Eq)]
-pub enum Wanted {
-    Read,
-    Write,
-    Rebuild,
-    Resync,
-}
-
-impl Wanted {
-    /// What the commands of a kind are opened for.
-    pub fn of(kind: Kind) -> Wanted
-        ensures { want_for result ≡ want_of kind }
-    {
-        match kind {
-            Kind::Read | Kind::DegradedRead => Wanted::Read,
-            Kind::Update | Kind::DataOnly | Kind::DegradedWrite => Wanted::Write,
-            Kind::Rebuild => Wanted::Rebuild,
-            Kind::Resync => Wanted::Resync,
-        }
-    }
-}
-
-/// How a piece is served.
-#[derive(Clone, Copy, Debug)]
-pub enum Decision {
-    Opening(Kind),
-    Refusing(Why),
-}
+use array_journal::{Decision, Kind, Want, Why};
 
 /// What the table asks about a piece at a target of a stripe.
 #[derive(Clone, Copy, Debug, PartialEq, Eq)]
@@ -62,90 +33,90 @@ pub struct Facts {
 /// Blocks of a missing unit can be read from the others only while parity can be trusted and no second
 /// unit is missing.
 fn decide_read(facts: &Facts) -> Decision
-    ensures { decision_of result ≡ (if facts.now.missing && facts.now.listed then Refuses Medium
+    ensures { result ≡ (if facts.now.missing && facts.now.listed then Refuses Medium
         else if nat_le 2 facts.now.missing_count then Refuses NotReady
         else if not facts.now.missing then Opens kinds.Read
         else Opens kinds.DegradedRead) }
 {
     if facts.missing && facts.listed {
-        Decision::Refusing(Why::Medium)
+        Decision::Refuses(Why::Medium)
     } else if facts.missing_count >= 2 {
-        Decision::Refusing(Why::NotReady)
+        Decision::Refuses(Why::NotReady)
     } else if !facts.missing {
-        Decision::Opening(Kind::Read)
+        Decision::Opens(Kind::Read)
     } else {
-        Decision::Opening(Kind::DegradedRead)
+        Decision::Opens(Kind::DegradedRead)
     }
 }
 
 /// Blocks of a missing unit go into parity alone; where parity is missing, blocks go to their unit
 /// alone, since there is nothing to fold into.
 fn decide_write(facts: &Facts) -> Decision
-    ensures { decision_of result ≡ (if facts.now.missing && facts.now.listed then Refuses Medium
+    ensures { result ≡ (if facts.now.missing && facts.now.listed then Refuses Medium
         else if nat_le 2 facts.now.missing_count then Refuses NotReady
         else if facts.now.missing then Opens kinds.DegradedWrite
         else if facts.now.parity_missing then Opens kinds.DataOnly
         else Opens kinds.Update) }
 {
     if facts.missing && facts.listed {
-        Decision::Refusing(Why::Medium)
+        Decision::Refuses(Why::Medium)
     } else if facts.missing_count >= 2 {
-        Decision::Refusing(Why::NotReady)
+        Decision::Refuses(Why::NotReady)
     } else if facts.missing {
-        Decision::Opening(Kind::DegradedWrite)
+        Decision::Opens(Kind::DegradedWrite)
     } else if facts.parity_missing {
-        Decision::Opening(Kind::DataOnly)
+        Decision::Opens(Kind::DataOnly)
     } else {
-        Decision::Opening(Kind::Update)
+        Decision::Opens(Kind::Update)
     }
 }
 
 /// A data unit of a listed stripe can't be rebuilt, because it would be made from a parity that lost a
 /// delta; the parity unit itself is made from the data, which clears the stripe.
 fn decide_rebuild(facts: &Facts) -> Decision
-    ensures { decision_of result ≡ (if facts.now.unfitted then Refuses Unfitted
+    ensures { result ≡ (if facts.now.unfitted then Refuses Unfitted
         else if not facts.now.missing then Refuses Present
         else if facts.now.listed && not facts.now.at_parity then Refuses Listed
         else if nat_le 2 facts.now.missing_count then Refuses Second
         else Opens kinds.Rebuild) }
 {
     if facts.unfitted {
-        Decision::Refusing(Why::Unfitted)
+        Decision::Refuses(Why::Unfitted)
     } else if !facts.missing {
-        Decision::Refusing(Why::Present)
+        Decision::Refuses(Why::Present)
     } else if facts.listed && !facts.at_parity {
-        Decision::Refusing(Why::Listed)
+        Decision::Refuses(Why::Listed)
     } else if facts.missing_count >= 2 {
-        Decision::Refusing(Why::Second)
+        Decision::Refuses(Why::Second)
     } else {
-        Decision::Opening(Kind::Rebuild)
+        Decision::Opens(Kind::Rebuild)
     }
 }
 
 /// Parity is made anew only where it has to be, and only from all data units.
 fn decide_resync(facts: &Facts) -> Decision
-    ensures { decision_of result ≡ (if not facts.now.listed then Refuses Clean
+    ensures { result ≡ (if not facts.now.listed then Refuses Clean
         else if nat_le 1 facts.now.missing_count then Refuses Absent
         else Opens kinds.Resync) }
 {
     if !facts.listed {
-        Decision::Refusing(Why::Clean)
+        Decision::Refuses(Why::Clean)
     } else if facts.missing_count >= 1 {
-        Decision::Refusing(Why::Absent)
+        Decision::Refuses(Why::Absent)
     } else {
-        Decision::Opening(Kind::Resync)
+        Decision::Opens(Kind::Resync)
     }
 }
 
 /// How a piece is served, by the facts about its target and stripe.
-pub fn decide(wanted: Wanted, facts: &Facts) -> Decision
+pub fn decide(want: Want, facts: &Facts) -> Decision
     ensures { (s : Setting) (stripe target : ℕ) (past : List Entry) → facts.now ≡ facts_of s stripe target past
-        → decision_of result ≡ decision s (want_for wanted) stripe target past }
+        → result ≡ decision s want stripe target past }
 {
-    match wanted {
-        Wanted::Read => decide_read(facts),
-        Wanted::Write => decide_write(facts),
-        Wanted::Rebuild => decide_rebuild(facts),
-        Wanted::Resync => decide_resync(facts),
+    match want {
+        Want::Read => decide_read(facts),
+        Want::Write => decide_write(facts),
+        Want::Rebuild => decide_rebuild(facts),
+        Want::Resync => decide_resync(facts),
     }
 }

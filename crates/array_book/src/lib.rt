@@ -15,6 +15,5 @@ mod slots;
 mod state;
 
 pub use conflicts::do_tasks_conflict;
-pub use decision::{Decision, Facts, Wanted, decide};
-pub use room::gatherer;
+pub use decision::{Facts, decide};
 pub use state::BookState;

@@ -2,21 +2,13 @@
 //! those that do already, because its own act would be refused for want of room later on.
 
 ghost use Rattle.std.specs.Prelude.{◌≡◌, ◌<◌, ◌^◌, reverse, slice_get, if◌then◌else◌};
-ghost use Rattle.array_journal.specs.Acts.{gatherer};
 ghost use Rattle.array_journal.specs.Decision.{holder_of, holds_at, held_count, has_room};
 ghost use Rattle.array_book.specs.BookStates.{KeepsBook};
 ghost use Rattle.array_book.specs.OpenCommands.{open_tasks};
 ghost use Rattle.array_book.specs.OpenTasks.{held_where};
 
 use crate::state::BookState;
-use array_journal::{Entry, Kind, Setting, Task};
-
-/// The target that gathers for a degraded read, where a target does.
-pub fn gatherer(task: &Task) -> usize
-    ensures { result ≡ gatherer task.now }
-{
-    if task.target == 0 { 1 } else { 0 }
-}
+use array_journal::{Entry, Kind, Setting, Task, gatherer};
 
 /// The target whose buffer a command will hold blocks in.
 fn holder_of(setting: &Setting, task: &Task) -> Option<usize>

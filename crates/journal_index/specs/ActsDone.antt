@@ -1,6 +1,7 @@
 -- What a command did under a lock.
 use Rattle.std.specs.Prelude.{ℕ, List}
-use Rattle.array_journal.specs.Acts.{Fetches, Puts, Diffs, Takes, Folds, Holds, is_act, shuts_command}
+use Rattle.array_journal.specs.declared.act.Act.TheVariants.{Fetches, Puts, Diffs, Takes, Folds, Holds}
+use Rattle.array_journal.specs.Acts.{is_act, shuts_command}
 use Rattle.array_journal.specs.declared.entry.Entry.{Entry}
 use Rattle.array_journal.specs.Entries.{some_at}
 use Rattle.journal_index.specs.declared.acts_done.ActsDone.{ActsDone}

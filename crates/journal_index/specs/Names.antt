@@ -5,7 +5,7 @@ use Rattle.array_journal.specs.declared.at.At.{At}
 use Rattle.array_journal.specs.declared.entry.Entry.{Entry}
 use Rattle.array_journal.specs.declared.event.Event.{Event}
 use Rattle.array_journal.specs.Entries.{name_of, same_at}
-use Rattle.journal_index.specs.declared.names.Names.{Names}
+use Rattle.journal_index.specs.declared.names.NameIndex.{NameIndex}
 use Rattle.journal_index.specs.Keys.{pair_cmp}
 
 -- the place of the newest entry of a name
@@ -24,5 +24,5 @@ event_at None entries = None
 event_at (Some place) entries = event_of (slice_get entries place)
 
 -- each name has its place
-abbrev pub KeepsNames : List Entry → Names → Type 0
+abbrev pub KeepsNames : List Entry → NameIndex → Type 0
 KeepsNames past names = (name : At) → get pair_cmp names.places (name.stamp, name.lock) ≡ place_of name past

@@ -49,14 +49,8 @@ fn actor(event: &Event) -> Option<u32>
     ensures { result ≡ actor event.now }
 {
     match event {
-        Event::Fetch { command, .. }
-        | Event::Put { command, .. }
-        | Event::Diff { command, .. }
-        | Event::Take { command, .. }
-        | Event::Fold { command, .. }
-        | Event::Hold { command, .. }
-        | Event::Shut { command, .. } => Some(*command),
-        _ => None,
+        Event::Shut { command, .. } => Some(*command),
+        _ => Some(event.act()?.command),
     }
 }
 

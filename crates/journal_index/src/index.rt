@@ -9,7 +9,7 @@ ghost use Rattle.journal_index.specs.Indexes.{IsIndexOf};
 use crate::command_acts::CommandActs;
 use crate::dirty::DirtyStripes;
 use crate::disks::Disks;
-use crate::names::Names;
+use crate::names::NameIndex;
 use crate::stamps::Stamps;
 use array_book::BookState;
 use array_journal::{Entry, Event, Task};
@@ -19,7 +19,7 @@ use std::alloc::Global;
 /// What is asked of entries, kept at hand.
 #[derive(Debug, Drop)]
 pub struct Index {
-    pub(crate) names: Names,
+    pub(crate) names: NameIndex,
     pub(crate) stamps: Stamps,
     pub(crate) disks: Disks,
     pub(crate) book: BookState,
@@ -54,7 +54,7 @@ impl Index {
         ensures { IsIndexOf [] result }
     {
         Index {
-            names: Names::new(alloc),
+            names: NameIndex::new(alloc),
             stamps: Stamps::new(alloc),
             disks: Disks::new(alloc),
             book: BookState::new(alloc),

@@ -14,7 +14,7 @@ use std::collections::BTreeMap;
 /// The place of the newest entry of each name. A name is a stamp and a lock, and places count from the
 /// oldest entry.
 #[derive(Debug, Drop)]
-pub struct Names {
+pub struct NameIndex {
     places: BTreeMap<(u64, u8), usize>,
 }
 
@@ -31,12 +31,12 @@ fn event_at(entries: &[Entry], place: Option<usize>) -> Option<&Event>
     }
 }
 
-impl Names {
+impl NameIndex {
     /// The names of no entries. Takes no memory.
-    pub fn new(alloc: Global) -> Names
+    pub fn new(alloc: Global) -> NameIndex
         ensures { KeepsNames [] result }
     {
-        Names {
+        NameIndex {
             places: BTreeMap::new(alloc),
         }
     }

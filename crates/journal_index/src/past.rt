@@ -22,7 +22,7 @@ use array_book::Facts;
 use array_journal::{At, Entry, Event, Setting, Task};
 use std::marker::Model;
 
-/// The entries so far, the oldest first, with their index.
+/// The entries so far with their index. A contract sees the newest first, as definitions have it.
 #[derive(Debug, Drop)]
 pub struct Past<'a> {
     entries: &'a [Entry],
@@ -36,7 +36,7 @@ impl<'a> Model for Past<'a> {
 
     ghost Value = { List Entry };
 
-    ghost view = { λ p. p.entries.now };
+    ghost view = { λ p. reverse p.entries.now };
 
     ghost invariant = { λ p. IsIndexOf (reverse p.entries.now) p.index.now };
 }
@@ -45,63 +45,63 @@ impl<'a> Past<'a> {
     /// Entries with their index.
     pub fn new(entries: &'a [Entry], index: &'a Index) -> Past<'a>
         requires { IsIndexOf (reverse entries.now) index.now }
-        ensures { result ≡ entries.now }
+        ensures { result ≡ reverse entries.now }
     {
         Past { entries, index }
     }
 
     /// The entries themselves, the oldest first.
     pub fn entries(&self) -> &'a [Entry]
-        ensures { result.now ≡ self.now }
+        ensures { self.now ≡ reverse result.now }
     {
         self.entries
     }
 
     /// What the entry of a name says.
     pub fn entry_at(&self, name: At) -> Option<&'a Event>
-        ensures { option_copied result ≡ entry_at name (reverse self.now) }
+        ensures { option_copied result ≡ entry_at name self.now }
     {
         self.index.names.event_in(self.entries, name)
     }
 
     /// Whether each entry of a lock has a smaller stamp.
     pub fn are_stamps_below(&self, lock: u8, stamp: u64) -> bool
-        ensures { result ≡ stamps_below lock stamp (reverse self.now) }
+        ensures { result ≡ stamps_below lock stamp self.now }
     {
         self.index.stamps.are_below(lock, stamp)
     }
 
     /// How many commands were opened.
     pub fn open_count(&self) -> usize
-        ensures { result ≡ open_count (reverse self.now) }
+        ensures { result ≡ open_count self.now }
     {
         self.index.book.open_count()
     }
 
     /// Whether a command was opened and not ended.
     pub fn is_open(&self, command: u32) -> bool
-        ensures { result ≡ is_open command (reverse self.now) }
+        ensures { result ≡ is_open command self.now }
     {
         self.index.book.is_open(command)
     }
 
     /// The task of a command, that of its opening.
     pub fn task_of(&self, command: u32) -> Option<&'a Task>
-        ensures { option_copied result ≡ task_of command (reverse self.now) }
+        ensures { option_copied result ≡ task_of command self.now }
     {
         self.index.book.task_of(self.entries, command)
     }
 
     /// Whether a command is closed as done.
     pub fn closes_done(&self, command: u32) -> bool
-        ensures { result ≡ some_at 0 (closes_done command) (reverse self.now) }
+        ensures { result ≡ some_at 0 (closes_done command) self.now }
     {
         self.index.book.closes_done(command)
     }
 
     /// How many openings have their command open.
     pub fn open_len(&self) -> usize
-        ensures { result ≡ length (open_tasks (reverse self.now)) }
+        ensures { result ≡ length (open_tasks self.now) }
     {
         self.index.book.open_len()
     }
@@ -109,14 +109,14 @@ impl<'a> Past<'a> {
     /// The task of an opening whose command is open. The place counts these openings from 0, the oldest
     /// first; there is none behind the last.
     pub fn open_task(&self, place: usize) -> Option<&'a Task>
-        ensures { option_copied result ≡ slice_get (open_tasks (reverse self.now)) place }
+        ensures { option_copied result ≡ slice_get (open_tasks self.now) place }
     {
         self.index.book.open_task(self.entries, place)
     }
 
     /// What a command did under a lock.
     pub fn acts_done(&self, lock: u8, command: u32) -> ActsDone
-        ensures { result ≡ acts_done lock command (reverse self.now) }
+        ensures { result ≡ acts_done lock command self.now }
     {
         self.index.acts.acts_done(lock, command)
     }
@@ -124,7 +124,7 @@ impl<'a> Past<'a> {
     /// The newest loss of a target, where no fresh disk came after it.
     pub fn loss_of(&self, target: usize) -> Option<At>
         requires { target < 256 }
-        ensures { result ≡ loss_of target (reverse self.now) }
+        ensures { result ≡ loss_of target self.now }
     {
         self.index.disks.loss_of(target)
     }
@@ -132,7 +132,7 @@ impl<'a> Past<'a> {
     /// Whether a target has no disk that works.
     pub fn is_gone(&self, target: usize) -> bool
         requires { target < 256 }
-        ensures { result ≡ is_gone target (reverse self.now) }
+        ensures { result ≡ is_gone target self.now }
     {
         self.loss_of(target).is_some()
     }
@@ -140,7 +140,7 @@ impl<'a> Past<'a> {
     /// How many fresh disks a target got.
     pub fn life_of(&self, target: usize) -> usize
         requires { target < 256 }
-        ensures { result ≡ life_of target (reverse self.now) }
+        ensures { result ≡ life_of target self.now }
     {
         self.index.disks.life_of(target)
     }
@@ -148,7 +148,7 @@ impl<'a> Past<'a> {
     /// How many requests to peers are still to be dropped at a target.
     pub fn drops(&self, target: usize) -> usize
         requires { target < 256 }
-        ensures { result ≡ drops target (reverse self.now) }
+        ensures { result ≡ drops target self.now }
     {
         self.index.disks.drops(target)
     }
@@ -156,49 +156,49 @@ impl<'a> Past<'a> {
     /// Whether a target got a disk for a swap that isn't older than an opening.
     pub fn is_swapped_since(&self, target: usize, opened: At) -> bool
         requires { target < 256 }
-        ensures { result ≡ some_at (target + 1) (swapped_since opened) (reverse self.now) }
+        ensures { result ≡ some_at (target + 1) (swapped_since opened) self.now }
     {
         self.index.disks.is_swapped_since(target, opened)
     }
 
     /// How often the book swapped a slot's disk.
     pub fn swap_count(&self, slot: usize) -> usize
-        ensures { result ≡ swap_count slot (reverse self.now) }
+        ensures { result ≡ swap_count slot self.now }
     {
         self.index.book.swap_count(slot)
     }
 
     /// Whether the newest note or swap of a slot is a note.
     pub fn is_unfitted(&self, slot: usize) -> bool
-        ensures { result ≡ is_unfitted slot (reverse self.now) }
+        ensures { result ≡ is_unfitted slot self.now }
     {
         self.index.book.is_unfitted(slot)
     }
 
     /// How often the book swapped a slot's disk before a stamp.
     pub fn swaps_before(&self, slot: usize, stamp: u64) -> usize
-        ensures { result ≡ count_before 0 (is_swap_of slot) stamp (reverse self.now) }
+        ensures { result ≡ count_before 0 (is_swap_of slot) stamp self.now }
     {
         self.index.book.swaps_before(slot, stamp)
     }
 
     /// Whether a stripe is listed.
     pub fn is_listed(&self, stripe: u32) -> bool
-        ensures { result ≡ is_listed stripe (reverse self.now) }
+        ensures { result ≡ is_listed stripe self.now }
     {
         self.index.dirty.is_listed(stripe)
     }
 
     /// Whether the book knows that a target's disk was lost, and of no rebuild of its unit since.
     pub fn is_missing(&self, target: usize, stripe: u32) -> bool
-        ensures { result ≡ is_missing target stripe (reverse self.now) }
+        ensures { result ≡ is_missing target stripe self.now }
     {
         self.index.book.is_missing(self.entries, target, stripe)
     }
     /// The facts on which the book decides a piece at a target of a stripe.
     pub fn facts(&self, setting: &Setting, stripe: u32, target: usize) -> Facts
         requires { IsSetting setting.now }
-        ensures { result ≡ facts_of setting.now stripe target (reverse self.now) }
+        ensures { result ≡ facts_of setting.now stripe target self.now }
     {
         let listed = self.is_listed(stripe);
         self.index
@@ -208,15 +208,15 @@ impl<'a> Past<'a> {
 
     /// The open command that a task conflicts with, of several the one that was opened first.
     pub fn first_in_way(&self, task: &Task) -> Option<u32>
-        ensures found { is_some result ≡ some_at 0 (opens_conflict (reverse self.now) task.now) (reverse self.now) }
-        ensures first { result ≡ first_open (tasks_conflict task.now) (reverse self.now) }
+        ensures found { is_some result ≡ some_at 0 (opens_conflict self.now task.now) self.now }
+        ensures first { result ≡ first_open (tasks_conflict task.now) self.now }
     {
         self.index.book.first_in_way(self.entries, task)
     }
 
     /// Whether the buffer has room for what a command of a task will hold.
     pub fn has_room(&self, setting: &Setting, task: &Task) -> bool
-        ensures { result ≡ has_room setting.now task.now (reverse self.now) }
+        ensures { result ≡ has_room setting.now task.now self.now }
     {
         self.index.book.has_room(setting, self.entries, task)
     }

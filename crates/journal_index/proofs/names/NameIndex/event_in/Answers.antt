@@ -2,7 +2,7 @@ use Rattle.std.proofs.Common.{sym, ap, ◌∙◌, reverse}
 use Rattle.std.proofs.lemmas.List.{reverse-reverse}
 use Rattle.journal_index.specs.Names.{event_at, place_of}
 use Rattle.journal_index.proofs.NameLaws.{entry_at-place}
-use Rattle.journal_index.proofs.names.Names.event_in.Goals as goal
+use Rattle.journal_index.proofs.names.NameIndex.event_in.Goals as goal
 
 pub returns : goal.returns
 returns c = λ keeps.

@@ -1,7 +1,7 @@
 use Rattle.std.proofs.Common.{Some, sym, ap, ◌∙◌}
 use Rattle.journal_index.proofs.Keys.{picked}
 use Rattle.journal_index.proofs.NameLaws.{is_named}
-use Rattle.journal_index.proofs.names.Names.add.Goals as goal
+use Rattle.journal_index.proofs.names.NameIndex.add.Goals as goal
 
 pub returns : goal.returns
 returns c = λ past at keeps name.
