@@ -4,7 +4,7 @@ use Rattle.std.specs.Prelude.{codes}
 use Rattle.std.specs.List.{flat_map, list_all, AllByRecursion}
 use Rattle.std.proofs.lemmas.Bool.{le-leb, lt-ltb}
 use Rattle.std.proofs.lemmas.Bool.Decides.{nat_tests}
-use Rattle.stripe_layout.specs.Layout.{IsArray}
+use Rattle.stripe_layout.specs.Layout.{greatest_unit}
 use Rattle.stripe_layout.specs.declared.geometry.Geometry.{Geometry}
 use Rattle.stripe_layout.specs.declared.mode.Mode.{Mode}
 use Rattle.host_scripts.specs.declared.script.Script.{Script}
@@ -12,26 +12,19 @@ use Rattle.host_scripts.specs.declared.script.Call.{Call}
 use Rattle.host_scripts.specs.declared.script.Action.{Action}
 use Rattle.host_scripts.specs.declared.script.Action.TheVariants.{Read, Write, Fill, Raw, Lose, Reset, DropNext, Replace, Rebuild, Resync}
 use Rattle.text_fields.specs.Spelling.{line, numeral}
-use Rattle.host_scripts.specs.Scripts.{letter, mode_text, call_text, order_texts, script_lines, spelling, IsMaximum, IsAction, IsScript, Spells}
+use Rattle.host_scripts.specs.Scripts.{letter, mode_text, call_text, order_texts, start_texts, script_lines, spelling, IsMaximum, IsAction, IsScript, SpellsScript}
 use Rattle.text_fields.specs.Reading.{stripped}
-use Rattle.host_scripts.specs.Loose.{exact_of, number_of, maxima_of, mode_of, order_of, call_of}
-use Rattle.host_scripts.specs.Reading.{Fault, any, within, line_at, number_at, is_maximum, are_maxima, geometry_at, targets_at, hosts_at, Head, head_at, are_turns, order_at, is_ranged, is_sized, is_ranged_call, is_sized_call, call_at, calls_at, first_line, script_at}
+use Rattle.host_scripts.specs.Loose.{maxima_of, mode_of, order_of, call_of}
+use Rattle.host_scripts.specs.Reading.{Fault, any, line_at, is_maximum, are_maxima, shape_at, buffer_line, targets_at, hosts_at, Head, head_at, turns_line, are_turns, order_at, is_ranged, is_sized, is_ranged_call, is_sized_call, call_at, calls_at, first_line, script_at}
 use Rattle.host_scripts.specs.Refusals.{IsFormedAction, IsFormedCall}
-use Rattle.text_fields.specs.Laws.{lacks}
 use Rattle.text_fields.proofs.Cuts.{stripped-again}
 use Rattle.host_scripts.proofs.Rules.{line-again}
-use Rattle.host_scripts.proofs.Texts.{cap, kept_maxima, maxima_line, version_rule, number_rule, maxima_rule, mode_rule, order_rule}
+use Rattle.host_scripts.proofs.Texts.{cap, kept_maxima, maxima_line, maxima_rule, mode_rule, order_rule}
+use Rattle.host_scripts.proofs.NumberLines.{cap-small, number-line}
+use Rattle.host_scripts.proofs.ShapeAgain.{shape-again}
 use Rattle.host_scripts.proofs.CallTexts.{kept_action, kept_call, call_rule}
 
 -- ---- what is in range is kept as it is
-
-pub cap-small : (n : ℕ) → n ≤ 4294967295 → cap n ≡ n
-cap-small n le = omega arith
-
-pub within-true : (least most n : ℕ) → most ≤ 4294967295 → least ≤ n → n ≤ most → within least most (cap n) ≡ true
-within-true least most n small low high =
-    let e = cap-small n (omega arith) in
-    rw (e, le-leb least n low, le-leb n most high) refl
 
 maximum-true : (unit n : ℕ) → IsMaximum unit n → (is_maximum unit (cap n) ≡ true) × (cap n ≡ n)
 maximum-true unit n (inl z) = rw z (refl, refl)
@@ -76,64 +69,41 @@ turns-true hosts turns le h =
 
 -- ---- lines
 
-number-line : (n : ℕ) (keyword : List ℕ) (least most : ℕ) → lacks 10 keyword ≡ true → most ≤ 4294967295 → (rest after : List ℕ) (v : ℕ) → least ≤ v → v ≤ most → rest ≡ line (keyword ++ numeral v) ++ after
-    → number_at n keyword least most rest ≡ Ok (v, after)
-unfolding number_at
-number-line n keyword least most clean small rest after v low high e =
-    let tests : within least most (cap v) ≡ true = within-true least most v small low high in
-    let read = line-again (number_of keyword) (λ n. keyword ++ numeral n) cap (λ n. Unit {0}) (number_rule keyword clean) (within least most) any n v after tt tests refl in
-    ap (λ (bytes : List ℕ). line_at n (within least most) any (number_of keyword) bytes) e ∙ read ∙ ap (λ (k : ℕ). Ok (k, after)) (cap-small v (omega arith))
-
-geometry-again : (g : Geometry) (b0 b1 b2 b3 rest : List ℕ) → IsArray g → b0 ≡ line (codes "targets " ++ numeral g.targets) ++ b1 → b1 ≡ line (codes "block " ++ numeral g.block) ++ b2
-    → b2 ≡ line (codes "unit " ++ numeral g.unit) ++ b3 → b3 ≡ line (codes "stripes " ++ numeral g.stripes) ++ rest → geometry_at b0 ≡ Ok (g, rest)
-unfolding geometry_at
-geometry-again g b0 b1 b2 b3 rest is e0 e1 e2 e3 =
-    let t = number-line 2 (codes "targets ") 3 16 refl (omega arith) b0 b1 g.targets is.least_targets is.most_targets e0 in
-    let b = number-line 3 (codes "block ") 1 4096 refl (omega arith) b1 b2 g.block is.least_block is.most_block e1 in
-    let u = number-line 4 (codes "unit ") 1 4096 refl (omega arith) b2 b3 g.unit is.least_unit is.most_unit e2 in
-    let s = number-line 5 (codes "stripes ") 1 4096 refl (omega arith) b3 rest g.stripes is.least_stripes is.most_stripes e3 in
-    rw (t, b, u, s) refl
-
-maxima-again : (unit : ℕ) (m rest after : List ℕ) → length m ≡ 3 → get_or m 0 0 ≤ 65535 → IsMaximum unit (get_or m 1 0) → IsMaximum unit (get_or m 2 0) → rest ≡ line (maxima_line m) ++ after
-    → line_at 7 (are_maxima unit) any maxima_of rest ≡ Ok (m, after)
-maxima-again unit m rest after len hw hg hr e =
+maxima-again : (unit n : ℕ) (m rest after : List ℕ) → length m ≡ 3 → get_or m 0 0 ≤ 65535 → IsMaximum unit (get_or m 1 0) → IsMaximum unit (get_or m 2 0) → rest ≡ line (maxima_line m) ++ after
+    → line_at n (are_maxima unit) any maxima_of rest ≡ Ok (m, after)
+maxima-again unit n m rest after len hw hg hr e =
     let tests = maxima-true unit (get_or m 0 0) (get_or m 1 0) (get_or m 2 0) hw hg hr in
-    let read = line-again maxima_of maxima_line kept_maxima (λ m. length m ≡ 3) maxima_rule (are_maxima unit) any 7 m after len tests.0 refl in
-    ap (λ (bytes : List ℕ). line_at 7 (are_maxima unit) any maxima_of bytes) e ∙ read ∙ ap (λ (k : List ℕ). Ok (k, after)) (tests.1 ∙ three-of m len)
+    let read = line-again maxima_of maxima_line kept_maxima (λ m. length m ≡ 3) maxima_rule (are_maxima unit) any n m after len tests.0 refl in
+    ap (λ (bytes : List ℕ). line_at n (are_maxima unit) any maxima_of bytes) e ∙ read ∙ ap (λ (k : List ℕ). Ok (k, after)) (tests.1 ∙ three-of m len)
 
-targets-again : (unit buffer : ℕ) (m b0 b1 rest : List ℕ) → unit ≤ buffer → buffer ≤ 65536 → length m ≡ 3 → get_or m 0 0 ≤ 65535 → IsMaximum unit (get_or m 1 0) → IsMaximum unit (get_or m 2 0)
-    → b0 ≡ line (codes "buffer " ++ numeral buffer) ++ b1 → b1 ≡ line (maxima_line m) ++ rest → targets_at unit b0 ≡ Ok (buffer, m, rest)
+targets-again : (unit n buffer : ℕ) (m b0 b1 rest : List ℕ) → unit ≤ buffer → buffer ≤ 65536 → length m ≡ 3 → get_or m 0 0 ≤ 65535 → IsMaximum unit (get_or m 1 0) → IsMaximum unit (get_or m 2 0)
+    → b0 ≡ line (codes "buffer " ++ numeral buffer) ++ b1 → b1 ≡ line (maxima_line m) ++ rest → targets_at unit n b0 ≡ Ok (buffer, m, rest)
 unfolding targets_at
-targets-again unit buffer m b0 b1 rest low high len hw hg hr e0 e1 =
-    let b = number-line 6 (codes "buffer ") unit 65536 refl (omega arith) b0 b1 buffer low high e0 in
-    let x = maxima-again unit m b1 rest len hw hg hr e1 in
+targets-again unit n buffer m b0 b1 rest low high len hw hg hr e0 e1 =
+    let b = number-line n (codes "buffer ") unit 65536 refl (omega arith) b0 b1 buffer low high e0 in
+    let x = maxima-again unit (n + 1) m b1 rest len hw hg hr e1 in
     rw (b, x) refl
 
-mode-line : (mode : Mode) (rest after : List ℕ) → rest ≡ line (mode_text mode) ++ after → line_at 8 any any mode_of rest ≡ Ok (mode, after)
-mode-line mode rest after e =
-    ap (λ (bytes : List ℕ). line_at 8 any any mode_of bytes) e ∙ line-again mode_of mode_text (λ m. m) (λ m. Unit {0}) mode_rule any any 8 mode after tt refl refl
+mode-line : (n : ℕ) (mode : Mode) (rest after : List ℕ) → rest ≡ line (mode_text mode) ++ after → line_at n any any mode_of rest ≡ Ok (mode, after)
+mode-line n mode rest after e =
+    ap (λ (bytes : List ℕ). line_at n any any mode_of bytes) e ∙ line-again mode_of mode_text (λ m. m) (λ m. Unit {0}) mode_rule any any n mode after tt refl refl
 
-hosts-again : (mode : Mode) (seed hosts : ℕ) (b0 b1 b2 rest : List ℕ) → seed < 2 ^ 32 → 1 ≤ hosts → hosts ≤ 26 → b0 ≡ line (mode_text mode) ++ b1 → b1 ≡ line (codes "seed " ++ numeral seed) ++ b2
-    → b2 ≡ line (codes "hosts " ++ numeral hosts) ++ rest → hosts_at b0 ≡ Ok (mode, seed, hosts, rest)
+hosts-again : (n : ℕ) (mode : Mode) (seed hosts : ℕ) (b0 b1 b2 rest : List ℕ) → seed < 2 ^ 32 → 1 ≤ hosts → hosts ≤ 26 → b0 ≡ line (mode_text mode) ++ b1 → b1 ≡ line (codes "seed " ++ numeral seed) ++ b2
+    → b2 ≡ line (codes "hosts " ++ numeral hosts) ++ rest → hosts_at n b0 ≡ Ok (mode, seed, hosts, rest)
 unfolding hosts_at
-hosts-again mode seed hosts b0 b1 b2 rest small low high e0 e1 e2 =
-    let m = mode-line mode b0 b1 e0 in
-    let s = number-line 9 (codes "seed ") 0 4294967295 refl (omega arith) b1 b2 seed (omega arith) (omega (arith, small)) e1 in
-    let h = number-line 10 (codes "hosts ") 1 26 refl (omega arith) b2 rest hosts low high e2 in
+hosts-again n mode seed hosts b0 b1 b2 rest small low high e0 e1 e2 =
+    let m = mode-line n mode b0 b1 e0 in
+    let s = number-line (n + 1) (codes "seed ") 0 4294967295 refl (omega arith) b1 b2 seed (omega arith) (omega (arith, small)) e1 in
+    let h = number-line (n + 2) (codes "hosts ") 1 26 refl (omega arith) b2 rest hosts low high e2 in
     rw (m, s, h) refl
 
-version-line : (rest after : List ℕ) → rest ≡ line (codes "xorscript 1") ++ after → line_at {V = ℕ} 1 any any (exact_of (codes "xorscript 1") 1) rest ≡ Ok (1, after)
-version-line rest after e =
-    let read = line-again (exact_of {V = ℕ} (codes "xorscript 1") 1) (λ (w : ℕ). codes "xorscript 1") (λ w. w) (λ w. w ≡ 1) version_rule any any 1 1 after refl refl refl in
-    ap (λ (bytes : List ℕ). line_at {V = ℕ} 1 any any (exact_of (codes "xorscript 1") 1) bytes) e ∙ read
-
 pub head_of_script : Script → Head
-head_of_script s = record { geometry = s.geometry; buffer = s.buffer; maxima = s.maxima; mode = s.mode; seed = s.seed; hosts = s.hosts }
+head_of_script s = record { version = s.version; geometry = s.geometry; buffer = s.buffer; maxima = s.maxima; mode = s.mode; seed = s.seed; hosts = s.hosts }
 
-head-parts : (s : Script) → IsScript s → (b0 b1 b2 b3 rest : List ℕ) → b0 ≡ line (codes "xorscript 1") ++ b1 → geometry_at b1 ≡ Ok (s.geometry, b2) → targets_at s.geometry.unit b2 ≡ Ok (s.buffer, s.maxima, b3)
-    → hosts_at b3 ≡ Ok (s.mode, s.seed, s.hosts, rest) → head_at b0 ≡ Ok (head_of_script s, rest)
+head-parts : (s : Script) (b0 b1 b2 rest : List ℕ) → shape_at b0 ≡ Ok (s.version, s.geometry, b1) → targets_at (greatest_unit s.geometry) (buffer_line s.version s.geometry.areas) b1 ≡ Ok (s.buffer, s.maxima, b2)
+    → hosts_at (buffer_line s.version s.geometry.areas + 2) b2 ≡ Ok (s.mode, s.seed, s.hosts, rest) → head_at b0 ≡ Ok (head_of_script s, rest)
 unfolding head_at head_of_script
-head-parts s is b0 b1 b2 b3 rest e g t h = rw (version-line b0 b1 e, g, t, h) refl
+head-parts s b0 b1 b2 rest g t h = rw (g, t, h) refl
 
 -- the bytes of lines
 abbrev rows : List (List ℕ) → List ℕ
@@ -141,23 +111,21 @@ rows texts = flat_map line texts
 
 pub head-again : (s : Script) → IsScript s → head_at (rows (script_lines s)) ≡ Ok (head_of_script s, rows (order_texts s.order ++ map call_text s.calls))
 head-again s is =
-    let rest = rows (order_texts s.order ++ map call_text s.calls) in
-    let b9 = line (codes "hosts " ++ numeral s.hosts) ++ rest in
-    let b8 = line (codes "seed " ++ numeral s.seed) ++ b9 in
-    let b7 = line (mode_text s.mode) ++ b8 in
-    let b6 = line (maxima_line s.maxima) ++ b7 in
-    let b5 = line (codes "buffer " ++ numeral s.buffer) ++ b6 in
-    let b4 = line (codes "stripes " ++ numeral s.geometry.stripes) ++ b5 in
-    let b3 = line (codes "unit " ++ numeral s.geometry.unit) ++ b4 in
-    let b2 = line (codes "block " ++ numeral s.geometry.block) ++ b3 in
-    let b1 = line (codes "targets " ++ numeral s.geometry.targets) ++ b2 in
-    head-parts s is (rows (script_lines s)) b1 b5 b7 rest refl (geometry-again s.geometry b1 b2 b3 b4 b5 is.geometry refl refl refl refl)
-    (targets-again s.geometry.unit s.buffer s.maxima b5 b6 b7 is.least_buffer is.most_buffer is.maxima is.write_maximum is.regenerate_maximum is.rebuild_maximum refl refl)
-    (hosts-again s.mode s.seed s.hosts b7 b8 b9 rest is.seed is.least_hosts is.most_hosts refl refl refl)
+    let others = order_texts s.order ++ map call_text s.calls in
+    let rest = rows others in
+    let b4 = line (codes "hosts " ++ numeral s.hosts) ++ rest in
+    let b3 = line (codes "seed " ++ numeral s.seed) ++ b4 in
+    let b2 = line (mode_text s.mode) ++ b3 in
+    let b1 = line (maxima_line s.maxima) ++ b2 in
+    let b0 = line (codes "buffer " ++ numeral s.buffer) ++ b1 in
+    let n = buffer_line s.version s.geometry.areas in
+    head-parts s (rows (script_lines s)) b0 b2 rest (shape-again s.version s.geometry (start_texts s ++ others) is.version is.geometry is.targets)
+    (targets-again (greatest_unit s.geometry) n s.buffer s.maxima b0 b1 b2 is.least_buffer is.most_buffer is.maxima is.write_maximum is.regenerate_maximum is.rebuild_maximum refl refl)
+    (hosts-again (n + 2) s.mode s.seed s.hosts b2 b3 b4 rest is.seed is.least_hosts is.most_hosts refl refl refl)
 
 -- ---- calls
 
-pub kept-ranged : (g : Geometry) (a : Action) → g.targets ≤ 16 → IsAction g a → IsFormedAction a × (is_ranged g (kept_action a) ≡ true) × (is_sized g (kept_action a) ≡ true) × (kept_action a ≡ a)
+pub kept-ranged : (g : Geometry) (a : Action) → g.targets ≤ 32 → IsAction g a → IsFormedAction a × (is_ranged g (kept_action a) ≡ true) × (is_sized g (kept_action a) ≡ true) × (kept_action a ≡ a)
 kept-ranged g (Read lba count) t h =
     let e = cap-small lba (omega (arith, h.0)) in
     let f = cap-small count (omega (arith, h.1)) in
@@ -179,7 +147,7 @@ kept-ranged g (Replace target) t h = let e = cap-small target (omega (arith, h, 
 kept-ranged g (Rebuild target) t h = let e = cap-small target (omega (arith, h, t)) in (tt, rw (e, lt-ltb target g.targets h) refl, refl, rw e refl)
 kept-ranged g Resync t h = (tt, refl, refl, refl)
 
-call-again : (g : Geometry) (hosts : ℕ) (call : Call) (n : ℕ) (after : List ℕ) → g.targets ≤ 16 → hosts ≤ 26 → call.host < hosts → IsAction g call.action → call_at g hosts n (line (call_text call) ++ after) ≡ Ok (call, after)
+call-again : (g : Geometry) (hosts : ℕ) (call : Call) (n : ℕ) (after : List ℕ) → g.targets ≤ 32 → hosts ≤ 26 → call.host < hosts → IsAction g call.action → call_at g hosts n (line (call_text call) ++ after) ≡ Ok (call, after)
 unfolding call_at
 call-again g hosts call n after t le lt h =
     let k = kept-ranged g call.action t h in
@@ -203,7 +171,7 @@ unfolding calls_at
 calls-none g hosts zero n = refl
 calls-none g hosts (suc turns) n = refl
 
-pub calls-again : (g : Geometry) (hosts : ℕ) (calls : List Call) (turns n : ℕ) → g.targets ≤ 16 → hosts ≤ 26 → AllByRecursion (λ call. (call.host < hosts) × IsAction g call.action) calls → length (rows (map call_text calls)) ≤ turns
+pub calls-again : (g : Geometry) (hosts : ℕ) (calls : List Call) (turns n : ℕ) → g.targets ≤ 32 → hosts ≤ 26 → AllByRecursion (λ call. (call.host < hosts) × IsAction g call.action) calls → length (rows (map call_text calls)) ≤ turns
     → calls_at g hosts turns n (rows (map call_text calls)) ≡ Ok calls
 calls-again g hosts [] turns n t le all h = calls-none g hosts turns n
 calls-again g hosts (call ∷ calls) zero n t le all h =
@@ -226,31 +194,31 @@ no-line : stripped (codes "order ") [] ≡ None
 unfolding stripped
 no-line = refl
 
-order-none : (hosts : ℕ) (bytes : List ℕ) → stripped (codes "order ") bytes ≡ None → order_at hosts bytes ≡ Ok ([], bytes)
+order-none : (hosts n : ℕ) (bytes : List ℕ) → stripped (codes "order ") bytes ≡ None → order_at hosts n bytes ≡ Ok ([], bytes)
 unfolding order_at
-order-none hosts bytes e = rw e refl
+order-none hosts n bytes e = rw e refl
 
-order-some : (hosts : ℕ) (bytes behind : List ℕ) (r : Result (List ℕ × List ℕ) Fault) → stripped (codes "order ") bytes ≡ Some behind → line_at 11 (are_turns hosts) any order_of bytes ≡ r → order_at hosts bytes ≡ r
+order-some : (hosts n : ℕ) (bytes behind : List ℕ) (r : Result (List ℕ × List ℕ) Fault) → stripped (codes "order ") bytes ≡ Some behind → line_at n (are_turns hosts) any order_of bytes ≡ r → order_at hosts n bytes ≡ r
 unfolding order_at
-order-some hosts bytes behind r e f = rw e f
+order-some hosts n bytes behind r e f = rw e f
 
-order-calls : (hosts : ℕ) (calls : List Call) → hosts ≤ 26 → AllByRecursion (λ call. call.host < hosts) calls → order_at hosts (rows (map call_text calls)) ≡ Ok ([], rows (map call_text calls))
-order-calls hosts [] le h = order-none hosts [] no-line
-order-calls hosts (call ∷ calls) le h = order-none hosts (rows (map call_text (call ∷ calls))) (not-order call.host _ (omega (arith, h.0)))
+order-calls : (hosts n : ℕ) (calls : List Call) → hosts ≤ 26 → AllByRecursion (λ call. call.host < hosts) calls → order_at hosts n (rows (map call_text calls)) ≡ Ok ([], rows (map call_text calls))
+order-calls hosts n [] le h = order-none hosts n [] no-line
+order-calls hosts n (call ∷ calls) le h = order-none hosts n (rows (map call_text (call ∷ calls))) (not-order call.host _ (omega (arith, h.0)))
 
-order-turns : (hosts h : ℕ) (turns after : List ℕ) → hosts ≤ 26 → length (h ∷ turns) ≤ 1000 → AllByRecursion (λ h. h < hosts) (h ∷ turns) → order_at hosts (line (codes "order " ++ map letter (h ∷ turns)) ++ after) ≡ Ok (h ∷ turns, after)
-order-turns hosts h turns after le few all =
+order-turns : (hosts n h : ℕ) (turns after : List ℕ) → hosts ≤ 26 → length (h ∷ turns) ≤ 1000 → AllByRecursion (λ h. h < hosts) (h ∷ turns) → order_at hosts n (line (codes "order " ++ map letter (h ∷ turns)) ++ after) ≡ Ok (h ∷ turns, after)
+order-turns hosts n h turns after le few all =
     let letters = map letter (h ∷ turns) in
     let behind : line (codes "order " ++ letters) ++ after ≡ codes "order " ++ (line letters ++ after) = refl in
     let begins : stripped (codes "order ") (line (codes "order " ++ letters) ++ after) ≡ Some (line letters ++ after) = ap (stripped (codes "order ")) behind ∙ stripped-again (codes "order ") (line letters ++ after) in
     let formed : (1 ≤ length (h ∷ turns)) × AllByRecursion (λ h. h < 26) (h ∷ turns) = (omega arith, each (λ h. h < hosts) (λ h. h < 26) (λ x lt. omega (arith, lt, le)) (h ∷ turns) all) in
-    order-some hosts (line (codes "order " ++ letters) ++ after) (line letters ++ after) (Ok (h ∷ turns, after)) begins
-    (line-again order_of (λ hs. codes "order " ++ map letter hs) (λ hs. hs) (λ hs. (1 ≤ length hs) × AllByRecursion (λ h. h < 26) hs) order_rule (are_turns hosts) any 11 (h ∷ turns) after formed (turns-true hosts (h ∷ turns) few all) refl)
+    order-some hosts n (line (codes "order " ++ letters) ++ after) (line letters ++ after) (Ok (h ∷ turns, after)) begins
+    (line-again order_of (λ hs. codes "order " ++ map letter hs) (λ hs. hs) (λ hs. (1 ≤ length hs) × AllByRecursion (λ h. h < 26) hs) order_rule (are_turns hosts) any n (h ∷ turns) after formed (turns-true hosts (h ∷ turns) few all) refl)
 
-pub order-again : (hosts : ℕ) (turns : List ℕ) (calls : List Call) → hosts ≤ 26 → length turns ≤ 1000 → AllByRecursion (λ h. h < hosts) turns → AllByRecursion (λ call. call.host < hosts) calls
-    → order_at hosts (rows (order_texts turns ++ map call_text calls)) ≡ Ok (turns, rows (map call_text calls))
-order-again hosts [] calls le few all h = order-calls hosts calls le h
-order-again hosts (t ∷ turns) calls le few all h = order-turns hosts t turns (rows (map call_text calls)) le few all
+pub order-again : (hosts n : ℕ) (turns : List ℕ) (calls : List Call) → hosts ≤ 26 → length turns ≤ 1000 → AllByRecursion (λ h. h < hosts) turns → AllByRecursion (λ call. call.host < hosts) calls
+    → order_at hosts n (rows (order_texts turns ++ map call_text calls)) ≡ Ok (turns, rows (map call_text calls))
+order-again hosts n [] calls le few all h = order-calls hosts n calls le h
+order-again hosts n (t ∷ turns) calls le few all h = order-turns hosts n t turns (rows (map call_text calls)) le few all
 
 -- ---- the whole
 
@@ -258,17 +226,19 @@ hosts-of : (g : Geometry) (hosts : ℕ) (calls : List Call) → AllByRecursion (
 hosts-of g hosts [] h = tt
 hosts-of g hosts (call ∷ calls) h = (h.0.0, hosts-of g hosts calls h.1)
 
-script-parts : (s : Script) (bytes b1 b2 : List ℕ) → head_at bytes ≡ Ok (head_of_script s, b1) → order_at s.hosts b1 ≡ Ok (s.order, b2) → calls_at s.geometry s.hosts (length b2) (first_line s.order) b2 ≡ Ok s.calls → script_at bytes ≡ Ok s
+script-parts : (s : Script) (bytes b1 b2 : List ℕ) → head_at bytes ≡ Ok (head_of_script s, b1) → order_at s.hosts (turns_line (head_of_script s)) b1 ≡ Ok (s.order, b2)
+    → calls_at s.geometry s.hosts (length b2) (first_line (turns_line (head_of_script s)) s.order) b2 ≡ Ok s.calls → script_at bytes ≡ Ok s
 unfolding script_at head_of_script
 script-parts s bytes b1 b2 h o c = rw (h, o, c) refl
 
-pub script-again : (bytes : List ℕ) (s : Script) → Spells bytes s → script_at bytes ≡ Ok s
+pub script-again : (bytes : List ℕ) (s : Script) → SpellsScript bytes s → script_at bytes ≡ Ok s
 unfolding spelling
 script-again bytes s spells =
     let is = spells.1 in
     let tail = rows (order_texts s.order ++ map call_text s.calls) in
     let rest = rows (map call_text s.calls) in
+    let n = turns_line (head_of_script s) in
     let h : head_at bytes ≡ Ok (head_of_script s, tail) = ap head_at spells.0 ∙ head-again s is in
-    let o = order-again s.hosts s.order s.calls is.most_hosts is.turns is.order (hosts-of s.geometry s.hosts s.calls is.calls) in
-    let c = calls-again s.geometry s.hosts s.calls (length rest) (first_line s.order) is.geometry.most_targets is.most_hosts is.calls (omega arith) in
+    let o = order-again s.hosts n s.order s.calls is.most_hosts is.turns is.order (hosts-of s.geometry s.hosts s.calls is.calls) in
+    let c = calls-again s.geometry s.hosts s.calls (length rest) (first_line n s.order) is.geometry.most_targets is.most_hosts is.calls (omega arith) in
     script-parts s bytes tail rest h o c

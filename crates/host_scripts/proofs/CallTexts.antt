@@ -1,8 +1,8 @@
 -- The rule of call lines.
-use Rattle.std.proofs.Common.{◌≡◌, ℕ, ◌+◌, ◌-◌, ◌*◌, ◌/◌, ◌%◌, ◌<◌, ◌≤◌, ◌&&◌, ◌==◌, nat_le, cond, Bool, true, false, List, [], ◌∷◌, ◌++◌, length, Option, Some, None, refl, sym, ap, subst, ◌∙◌, arith}
+use Rattle.std.proofs.Common.{◌≡◌, ℕ, ◌+◌, ◌-◌, ◌<◌, ◌≤◌, ◌&&◌, ◌==◌, nat_le, cond, Bool, true, false, List, [], ◌∷◌, ◌++◌, length, Option, Some, None, refl, sym, ap, subst, ◌∙◌, arith}
 use Rattle.std.specs.Prelude.{codes}
 use Rattle.std.proofs.lemmas.Bool.Decides.{nat_tests}
-use Rattle.std.proofs.lemmas.Option.{cond_some, same_Some}
+use Rattle.std.proofs.lemmas.Option.{same_Some}
 use Rattle.host_scripts.specs.declared.script.Call.{Call}
 use Rattle.host_scripts.specs.declared.script.Action.{Action}
 use Rattle.host_scripts.specs.declared.script.Action.TheVariants.{Read, Write, Fill, Raw, Lose, Reset, DropNext, Replace, Rebuild, Resync}
@@ -43,12 +43,12 @@ pub record SaysAction (keyword text : List ℕ) (a : Action) : Type 0 where
   pub value : a ≡ kept_action word
 
 -- a number, and what stands behind it
-record IsAddressed (text : List ℕ) (v : ℕ) (rest : List ℕ) : Type 0 where
-  number : ℕ
-  spelt : text ≡ numeral number ++ 32 ∷ rest
-  value : v ≡ cap number
+pub record IsAddressed (text : List ℕ) (v : ℕ) (rest : List ℕ) : Type 0 where
+  pub number : ℕ
+  pub spelt : text ≡ numeral number ++ 32 ∷ rest
+  pub value : v ≡ cap number
 
-addressed-takes : (text : List ℕ) (x : ℕ × List ℕ) → addressed_of text ≡ Some x → IsAddressed text x.0 x.1
+pub addressed-takes : (text : List ℕ) (x : ℕ × List ℕ) → addressed_of text ≡ Some x → IsAddressed text x.0 x.1
 unfolding addressed_of
 addressed-takes text x e =
     let a = bind-some (cut_at 32 text) (λ cut. numeral_of cut.0 >>= λ lba. Some (lba, cut.1)) x e in
@@ -58,7 +58,7 @@ addressed-takes text x e =
     let here : IsAddressed text b.0 a.0.1 = record { number = n.number; spelt = all; value = n.value } in
     subst (λ (p : ℕ × List ℕ). IsAddressed text p.0 p.1) (same_Some (b.0, a.0.1) x b.2) here
 
-addressed-again : (n : ℕ) (rest : List ℕ) → addressed_of (numeral n ++ 32 ∷ rest) ≡ Some (cap n, rest)
+pub addressed-again : (n : ℕ) (rest : List ℕ) → addressed_of (numeral n ++ 32 ∷ rest) ≡ Some (cap n, rest)
 unfolding addressed_of
 addressed-again n rest = rw (cut-again 32 (numeral n) rest (numeral-lacks 32 n (omega arith)), numeral-again n) refl
 

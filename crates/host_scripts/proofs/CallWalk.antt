@@ -14,19 +14,22 @@ use Rattle.host_scripts.specs.declared.script.Action.{Action}
 use Rattle.host_scripts.specs.declared.script.Action.TheVariants.{Read, Write, Fill, Raw, Lose, Reset, DropNext, Replace, Rebuild, Resync}
 use Rattle.host_scripts.specs.declared.script.Cause.TheVariants.{Size}
 use Rattle.text_fields.specs.Spelling.{line}
-use Rattle.host_scripts.specs.Scripts.{letter, call_text, order_texts, script_lines, IsAction, IsCall, IsScript}
+use Rattle.host_scripts.specs.Scripts.{letter, call_text, shape_texts, order_texts, script_lines, IsAction, IsCall, IsScript}
 use Rattle.text_fields.specs.Reading.{stripped}
 use Rattle.host_scripts.specs.Loose.{order_of, call_of}
-use Rattle.host_scripts.specs.Reading.{Head, any, line_at, are_turns, where_given, order_at, is_ranged, is_sized, is_ranged_call, is_sized_call, call_at, calls_at}
+use Rattle.host_scripts.specs.Reading.{Head, turns_line, any, line_at, are_turns, where_given, order_at, is_ranged, is_sized, is_ranged_call, is_sized_call, call_at, calls_at}
 use Rattle.host_scripts.specs.Refusals.{IsFormedAction, IsFormedCall, IsFormed, IsRangedAction, IsRangedCall, IsRanged, Begins, IsCause}
 use Rattle.host_scripts.proofs.Outcomes.{Outcome, then}
 use Rattle.text_fields.proofs.Cuts.{stripped-again}
 use Rattle.host_scripts.proofs.Rules.{LineBad}
 use Rattle.host_scripts.proofs.Texts.{cap, order_rule}
 use Rattle.host_scripts.proofs.CallTexts.{kept_action, kept_call, call_rule}
-use Rattle.host_scripts.proofs.Again.{cap-small, kept-ranged}
-use Rattle.host_scripts.proofs.Places.{Near, IsPlace, Spelled, Grown, placed, outcome_map, form-action, regroup, same-number, ranged-formed, script-ranged, same-line}
-use Rattle.host_scripts.proofs.HeadWalk.{whole, ten, IsHead, starts}
+use Rattle.host_scripts.proofs.NumberLines.{cap-small}
+use Rattle.host_scripts.proofs.Again.{kept-ranged}
+use Rattle.host_scripts.proofs.ShapeTexts.{same-number, same-shape, shape-count}
+use Rattle.host_scripts.proofs.ShapeScripts.{behind_shape}
+use Rattle.host_scripts.proofs.Places.{Near, IsPlace, Spelled, Grown, placed, outcome_map, form-action, regroup, ranged-formed, script-ranged, same-line}
+use Rattle.host_scripts.proofs.HeadWalk.{whole, start_of, head_texts, IsHead, starts}
 
 -- ---- what the tests say of a call
 
@@ -45,10 +48,10 @@ lt-from m n h = grind (arith, nat_tests)
 small : (n most : ℕ) → most ≤ 4294967295 → nat_le (cap n) most ≡ true → (n ≤ most) × (cap n ≡ n)
 small n most le h = let k = le-from (cap n) most h in (omega (arith, k), omega (arith, k))
 
-target-small : (t n : ℕ) → n ≤ 16 → nat_lt (cap t) n ≡ true → (t < n) × (cap t ≡ t)
+target-small : (t n : ℕ) → n ≤ 32 → nat_lt (cap t) n ≡ true → (t < n) × (cap t ≡ t)
 target-small t n le h = let k = lt-from (cap t) n h in (omega (arith, k), omega (arith, k))
 
-ranged-takes : (g : Geometry) (a : Action) → g.targets ≤ 16 → IsFormedAction a → is_ranged g (kept_action a) ≡ true → IsRangedAction g a × (kept_action a ≡ a)
+ranged-takes : (g : Geometry) (a : Action) → g.targets ≤ 32 → IsFormedAction a → is_ranged g (kept_action a) ≡ true → IsRangedAction g a × (kept_action a ≡ a)
 ranged-takes g (Read lba count) t f h =
     let p = both (nat_le (cap lba) 4294967295) (nat_le (cap count) 65535) h in
     let x = small lba 4294967295 (omega arith) p.0 in
@@ -68,7 +71,7 @@ ranged-takes g (Replace target) t f h = let x = target-small target g.targets t 
 ranged-takes g (Rebuild target) t f h = let x = target-small target g.targets t h in (x.0, rw x.1 refl)
 ranged-takes g Resync t f h = (tt, refl)
 
-ranged-again : (g : Geometry) (a : Action) → g.targets ≤ 16 → IsRangedAction g a → is_ranged g (kept_action a) ≡ true
+ranged-again : (g : Geometry) (a : Action) → g.targets ≤ 32 → IsRangedAction g a → is_ranged g (kept_action a) ≡ true
 ranged-again g (Read lba count) t h = rw (cap-small lba (omega (arith, h.0)), cap-small count (omega (arith, h.1)), le-leb lba 4294967295 (omega (arith, h.0)), le-leb count 65535 (omega (arith, h.1))) refl
 ranged-again g (Write lba bytes) t h = rw (cap-small lba (omega (arith, h.0))) (le-leb lba 4294967295 (omega (arith, h.0)))
 ranged-again g (Fill lba count byte) t h = rw (cap-small lba (omega (arith, h.0)), cap-small count (omega (arith, h.1)), le-leb lba 4294967295 (omega (arith, h.0)), le-leb count 65535 (omega (arith, h.1))) refl
@@ -106,7 +109,9 @@ pub record IsSoFar (h : Head) (given : List ℕ) (asked : List Call) : Type 0 wh
 
 pub so-far : (h : Head) (order : List ℕ) (calls : List Call) → IsSoFar h order calls → IsScript (whole h order calls)
 so-far h order calls is = record {
-  geometry = is.head.array;
+  version = is.head.shape.version_is;
+  geometry = is.head.shape.array;
+  targets = is.head.shape.targets;
   least_buffer = is.head.least_buffer;
   most_buffer = is.head.most_buffer;
   maxima = is.head.maxima.len;
@@ -131,20 +136,46 @@ map-append (x ∷ xs) ys = ap (λ (ts : List (List ℕ)). call_text x ∷ ts) (m
 
 -- the lines of a script are its front and those of its calls
 pub lines-are : (h : Head) (order : List ℕ) (calls : List Call) → script_lines (whole h order calls) ≡ front h order ++ map call_text calls
-lines-are h [] calls = refl
-lines-are h (t ∷ turns) calls = refl
+lines-are h order calls =
+    let shape = shape_texts h.version h.geometry in
+    ap (λ (ts : List (List ℕ)). shape ++ ts) (started order) ∙ sym (append_assoc shape (start_of h ++ (order_texts order ++ [])) (map call_text calls))
+  where
+    started : (order : List ℕ) → start_of h ++ (order_texts order ++ map call_text calls) ≡ (start_of h ++ (order_texts order ++ [])) ++ map call_text calls
+    started [] = refl
+    started (t ∷ turns) = refl
 
 lines-more : (h : Head) (order : List ℕ) (calls more : List Call) → script_lines (whole h order (calls ++ more)) ≡ script_lines (whole h order calls) ++ map call_text more
 lines-more h order calls more =
     lines-are h order (calls ++ more) ∙ ap (λ (ts : List (List ℕ)). front h order ++ ts) (map-append calls more)
     ∙ sym (append_assoc (front h order) (map call_text calls) (map call_text more)) ∙ ap (λ (ts : List (List ℕ)). ts ++ map call_text more) (sym (lines-are h order calls))
 
--- the lines behind the tenth
+-- the lines behind the header
 abbrev behind : Script → List (List ℕ)
 behind s = order_texts s.order ++ map call_text s.calls
 
-drop-ten : (s : Script) → drop 10 (script_lines s) ≡ behind s
-drop-ten s = refl
+-- what is known of a script that begins with the lines of a header, and has these behind them
+record SameHead (h : Head) (s : Script) (texts : List (List ℕ)) : Type 0 where
+  geometry : s.geometry ≡ h.geometry
+  hosts : s.hosts ≡ h.hosts
+  lines : behind s ≡ texts
+
+head-same : (h : Head) → IsHead h → (s : Script) (texts : List (List ℕ)) → IsFormed s → script_lines s ≡ shape_texts h.version h.geometry ++ (start_of h ++ texts) → SameHead h s texts
+head-same h is s texts f e =
+    let shape = same-shape s.version h.version s.geometry h.geometry (behind_shape s) (start_of h ++ texts) f.version is.shape.version_is e in
+    record {
+      geometry = shape.geometry;
+      hosts = same-number (codes "hosts ") s.hosts h.hosts (ap (λ (xs : List (List ℕ)). get_or xs 4 []) shape.behind);
+      lines = ap (λ (xs : List (List ℕ)). drop 5 xs) shape.behind;
+    }
+
+-- the same of a script that begins with a header, turns and calls
+calls-same : (h : Head) → IsHead h → (order : List ℕ) (calls : List Call) (s : Script) (more : List (List ℕ)) → IsFormed s → script_lines s ≡ script_lines (whole h order calls) ++ more
+    → SameHead h s ((order_texts order ++ map call_text calls) ++ more)
+calls-same h is order calls s more f e = head-same h is s ((order_texts order ++ map call_text calls) ++ more) f (e ∙ append_assoc (shape_texts h.version h.geometry) (start_of h ++ (order_texts order ++ map call_text calls)) more)
+
+-- and of one that begins with a header alone
+front-same : (h : Head) → IsHead h → (s : Script) (more : List (List ℕ)) → IsFormed s → script_lines s ≡ head_texts h ++ more → SameHead h s more
+front-same h is s more f e = head-same h is s more f (e ∙ append_assoc (shape_texts h.version h.geometry) (start_of h) more)
 
 -- ---- the line of the first turns
 
@@ -205,22 +236,15 @@ order-here [] (call ∷ calls) text more after rest found all f e split begins =
     let rest-is : rest ≡ call_text call ++ (10 ∷ after) = split ∙ ap (λ (t : List ℕ). line t ++ after) (sym same) ∙ append_assoc (call_text call) (10 ∷ []) after in
     absurd (none-some found (sym (ap (stripped (codes "order ")) rest-is ∙ call-bare call (10 ∷ after) f.0.0) ∙ begins))
 
-ten-begins : (h : Head) → IsHead h → Begins IsScript (ten h)
-ten-begins h is = record { script = whole h [] []; kind = starts h is; more = []; lines = sym (append-nil (ten h)) }
+head-begins : (h : Head) → IsHead h → Begins IsScript (head_texts h)
+head-begins h is = record { script = whole h [] []; kind = starts h is; more = []; lines = sym (append-nil (head_texts h)) }
 
-order-formed : (h : Head) → IsHead h → (hs : List ℕ) → AreLetters hs → Begins IsFormed (ten h ++ order_line hs ∷ [])
-order-formed h is hs f = record { script = whole h hs []; kind = record { maxima = is.maxima.len; order = f.1; calls = tt }; more = []; lines = order-lines h hs [] f.0 }
-  where
-    order-lines : (h : Head) (hs : List ℕ) (more : List (List ℕ)) → 1 ≤ length hs → script_lines (whole h hs []) ≡ (ten h ++ order_line hs ∷ []) ++ []
-    order-lines h [] more lt = let no : ⊥ = omega arith in absurd no
-    order-lines h (t ∷ hs) more lt = refl
-
-order-split : (h : Head) (hs : List ℕ) → 1 ≤ length hs → ten h ++ order_line hs ∷ [] ≡ front h hs
+order-split : (h : Head) (hs : List ℕ) → 1 ≤ length hs → head_texts h ++ order_line hs ∷ [] ≡ front h hs
 order-split h [] lt = let no : ⊥ = omega arith in absurd no
-order-split h (t ∷ hs) lt = refl
+order-split h (t ∷ hs) lt = append_assoc (shape_texts h.version h.geometry) (start_of h) (order_line (t ∷ hs) ∷ [])
 
-same-hosts : (h : Head) (s : Script) (more : List (List ℕ)) → script_lines s ≡ ten h ++ more → s.hosts ≡ h.hosts
-same-hosts h s more e = same-number (codes "hosts ") s.hosts h.hosts (ap (λ (xs : List (List ℕ)). get_or xs 9 []) e)
+order-formed : (h : Head) → IsHead h → (hs : List ℕ) → AreLetters hs → Begins IsFormed (head_texts h ++ order_line hs ∷ [])
+order-formed h is hs f = record { script = whole h hs []; kind = record { version = is.shape.version_is; maxima = is.maxima.len; order = f.1; calls = tt }; more = []; lines = sym (order-split h hs f.0) ∙ sym (append-nil (head_texts h ++ order_line hs ∷ [])) }
 
 script-turns : (order : List ℕ) (calls : List Call) (hs : List ℕ) (more : List (List ℕ)) → 1 ≤ length hs → AllByRecursion (λ h. h < 26) order → AllByRecursion IsFormedCall calls → AreLetters hs → order_texts order ++ map call_text calls ≡ order_line hs ∷ more → order ≡ hs
 script-turns (o ∷ order) calls hs more lt all f letters e =
@@ -231,39 +255,43 @@ script-turns [] (call ∷ calls) hs more lt all f letters e =
     let same : call_text call ≡ order_line hs = ap (λ (xs : List (List ℕ)). get_or xs 0 []) e in
     absurd (none-some (map letter hs ++ []) (sym (call-bare call [] f.0.0) ∙ ap (λ (t : List ℕ). stripped (codes "order ") (t ++ [])) same ∙ order-begins (map letter hs) []))
 
-order-placed : (bytes rest found : List ℕ) (h : Head) → IsHead h → bytes ≡ flat_map line (ten h) ++ rest → stripped (codes "order ") rest ≡ Some found
-    → Outcome (OrderRead bytes h) (Near bytes) (line_at 11 (are_turns h.hosts) any order_of rest)
+pub turns-number : (h : Head) → IsHead h → turns_line h ≡ length (head_texts h) + 1
+turns-number h is = let n = shape-count h.version h.geometry is.shape.version_is in omega (arith, n, length-append (shape_texts h.version h.geometry) (start_of h))
+
+order-placed : (bytes rest found : List ℕ) (h : Head) → IsHead h → bytes ≡ flat_map line (head_texts h) ++ rest → stripped (codes "order ") rest ≡ Some found
+    → Outcome (OrderRead bytes h) (Near bytes) (line_at (turns_line h) (are_turns h.hosts) any order_of rest)
 order-placed bytes rest found h is e begins =
     let kept : List ℕ → List ℕ = λ hs. hs in
-    let texts = ten h in
+    let texts = head_texts h in
+    let n = turns_line h in
     let place : IsPlace order_line kept AreLetters (are_turns h.hosts) texts rest = record {
-      here = λ s text more after f e split. order-here s.order s.calls text more after rest found f.order f.calls (ap (λ (xs : List (List ℕ)). drop 10 xs) e) split begins;
+      here = λ s text more after f e split. order-here s.order s.calls text more after rest found f.order f.calls (front-same h is s (text ∷ more) f e).lines split begins;
       formed = order-formed h is;
       fits = λ s hs more r letters e.
           let f = ranged-formed s r in
-          let same : s.order ≡ hs = script-turns s.order s.calls hs more letters.0 f.order f.calls letters (ap (λ (xs : List (List ℕ)). drop 10 xs) e) in
-          let hosts : s.hosts ≡ h.hosts = same-hosts h s (order_line hs ∷ more) e in
+          let head = front-same h is s (order_line hs ∷ more) f e in
+          let same : s.order ≡ hs = script-turns s.order s.calls hs more letters.0 f.order f.calls letters head.lines in
           let tests : are_turns s.hosts s.order ≡ true = turns-into s.hosts s.order r.turns r.order in
-          subst (λ (n : ℕ). are_turns n hs ≡ true) hosts (subst (λ (k : List ℕ). are_turns s.hosts k ≡ true) same tests);
+          subst (λ (n : ℕ). are_turns n hs ≡ true) head.hosts (subst (λ (k : List ℕ). are_turns s.hosts k ≡ true) same tests);
     } in
-    outcome_map (Grown order_line kept AreLetters (are_turns h.hosts) any bytes texts) (OrderRead bytes h) (Near bytes) (Near bytes) (line_at 11 (are_turns h.hosts) any order_of rest)
-    (placed order_of order_line kept AreLetters order_rule (are_turns h.hosts) any bytes texts rest 11 e refl (ten-begins h is) place (λ bad. absurd (bad.holds.1 refl)))
+    outcome_map (Grown order_line kept AreLetters (are_turns h.hosts) any bytes texts) (OrderRead bytes h) (Near bytes) (Near bytes) (line_at n (are_turns h.hosts) any order_of rest)
+    (placed order_of order_line kept AreLetters order_rule (are_turns h.hosts) any bytes texts rest n e (turns-number h is) (head-begins h is) place (λ bad. absurd (bad.holds.1 refl)))
     (λ x r.
     let t = turns-from h.hosts x.0 r.ranged_is in
     let long : 1 ≤ length x.0 = subst (λ (k : List ℕ). 1 ≤ length k) (sym r.value) r.formed.0 in
-    let split : bytes ≡ flat_map line (ten h ++ order_line x.0 ∷ []) ++ x.1 = subst (λ (k : List ℕ). bytes ≡ flat_map line (ten h ++ order_line k ∷ []) ++ x.1) (sym r.value) r.split in
+    let split : bytes ≡ flat_map line (head_texts h ++ order_line x.0 ∷ []) ++ x.1 = subst (λ (k : List ℕ). bytes ≡ flat_map line (head_texts h ++ order_line k ∷ []) ++ x.1) (sym r.value) r.split in
     record {
       is = record { head = is; turns = t.0; order = t.1; calls = tt };
       split = split ∙ ap (λ (ts : List (List ℕ)). flat_map line ts ++ x.1) (order-split h x.0 long);
       bare = λ none. let no : ⊥ = omega (arith, long, ap (λ (xs : List ℕ). length xs) none) in absurd no;
     }) (λ m cause bad. bad)
 
-order-by : (bytes rest : List ℕ) (h : Head) → IsHead h → bytes ≡ flat_map line (ten h) ++ rest → (o : Option (List ℕ)) → stripped (codes "order ") rest ≡ o
-    → Outcome (OrderRead bytes h) (Near bytes) (where_given o rest (line_at 11 (are_turns h.hosts) any order_of rest))
+order-by : (bytes rest : List ℕ) (h : Head) → IsHead h → bytes ≡ flat_map line (head_texts h) ++ rest → (o : Option (List ℕ)) → stripped (codes "order ") rest ≡ o
+    → Outcome (OrderRead bytes h) (Near bytes) (where_given o rest (line_at (turns_line h) (are_turns h.hosts) any order_of rest))
 order-by bytes rest h is e (Some found) begins = order-placed bytes rest found h is e begins
 order-by bytes rest h is e None none = record { is = record { head = is; turns = omega arith; order = tt; calls = tt }; split = e; bare = λ _. none }
 
-pub order-outcome : (bytes rest : List ℕ) (h : Head) → IsHead h → bytes ≡ flat_map line (ten h) ++ rest → Outcome (OrderRead bytes h) (Near bytes) (order_at h.hosts rest)
+pub order-outcome : (bytes rest : List ℕ) (h : Head) → IsHead h → bytes ≡ flat_map line (head_texts h) ++ rest → Outcome (OrderRead bytes h) (Near bytes) (order_at h.hosts (turns_line h) rest)
 unfolding order_at
 order-outcome bytes rest h is e = order-by bytes rest h is e (stripped (codes "order ") rest) refl
 
@@ -302,22 +330,6 @@ calls-behind [] (call ∷ asked) (t ∷ turns) done text tail more f g bare e =
     let no : ⊥ = none-some (map letter (t ∷ turns) ++ []) (sym (call-bare call [] f.0.0) ∙ ap (λ (t : List ℕ). stripped (codes "order ") (t ++ [])) same ∙ order-begins (map letter (t ∷ turns)) []) in
     absurd no
 
-geometry-same : (a b : Geometry) → a.targets ≡ b.targets → a.block ≡ b.block → a.unit ≡ b.unit → a.stripes ≡ b.stripes → a ≡ b
-geometry-same a b t k u s =
-    let make : ℕ → ℕ → ℕ → ℕ → Geometry = λ t k u s. record { targets = t; block = k; unit = u; stripes = s } in
-    ap (λ (x : ℕ). make x a.block a.unit a.stripes) t ∙ ap (λ (x : ℕ). make b.targets x a.unit a.stripes) k ∙ ap (λ (x : ℕ). make b.targets b.block x a.stripes) u ∙ ap (λ (x : ℕ). make b.targets b.block b.unit x) s
-
-same-geometry : (h : Head) (order : List ℕ) (calls : List Call) (s : Script) (more : List (List ℕ)) → script_lines s ≡ script_lines (whole h order calls) ++ more → s.geometry ≡ h.geometry
-same-geometry h order calls s more e =
-    geometry-same s.geometry h.geometry
-    (same-number (codes "targets ") s.geometry.targets h.geometry.targets (ap (λ (xs : List (List ℕ)). get_or xs 1 []) e))
-    (same-number (codes "block ") s.geometry.block h.geometry.block (ap (λ (xs : List (List ℕ)). get_or xs 2 []) e))
-    (same-number (codes "unit ") s.geometry.unit h.geometry.unit (ap (λ (xs : List (List ℕ)). get_or xs 3 []) e))
-    (same-number (codes "stripes ") s.geometry.stripes h.geometry.stripes (ap (λ (xs : List (List ℕ)). get_or xs 4 []) e))
-
-hosts-same : (h : Head) (order : List ℕ) (calls : List Call) (s : Script) (more : List (List ℕ)) → script_lines s ≡ script_lines (whole h order calls) ++ more → s.hosts ≡ h.hosts
-hosts-same h order calls s more e = same-number (codes "hosts ") s.hosts h.hosts (ap (λ (xs : List (List ℕ)). get_or xs 9 []) e)
-
 all-append : (P : Call → Type 0) (xs : List Call) (y : Call) → AllByRecursion P xs → P y → AllByRecursion P (xs ++ y ∷ [])
 all-append P [] y h p = (p, tt)
 all-append P (x ∷ xs) y h p = (h.0, all-append P xs y h.1 p)
@@ -338,7 +350,7 @@ call-here : (h : Head) (order : List ℕ) (calls : List Call) (rest : List ℕ) 
     → (s : Script) (text : List ℕ) (more : List (List ℕ)) (after : List ℕ) → IsFormed s → script_lines s ≡ script_lines (whole h order calls) ++ text ∷ more → rest ≡ line text ++ after → Spelled call_text IsFormedCall text
 call-here h order calls rest is bare s text more after f e split =
     let rest-is : text ++ 10 ∷ after ≡ rest = sym (split ∙ append_assoc text (10 ∷ []) after) in
-    let tail = calls-behind s.order s.calls order calls text (10 ∷ after) more f.calls (formed-so-far h order calls is).calls (λ o d. ap (stripped (codes "order ")) rest-is ∙ bare o d) (ap (λ (xs : List (List ℕ)). drop 10 xs) e) in
+    let tail = calls-behind s.order s.calls order calls text (10 ∷ after) more f.calls (formed-so-far h order calls is).calls (λ o d. ap (stripped (codes "order ")) rest-is ∙ bare o d) (calls-same h is.head order calls s (text ∷ more) f e).lines in
     call-after s.calls calls text more f.calls tail
 
 same-kept : (a b : Call) → IsFormedCall a → IsFormedCall b → call_text a ≡ call_text b → kept_call a ≡ kept_call b
@@ -348,18 +360,19 @@ same-kept a b f g e = same_Some (kept_call a) (kept_call b) (sym (call_rule.agai
 call-there : (P : Call → Type 0) (h : Head) (order : List ℕ) (calls : List Call) → IsSoFar h order calls → (s : Script) (w : Call) (more : List (List ℕ)) → IsFormed s → AllByRecursion P s.calls → IsFormedCall w
     → script_lines s ≡ script_lines (whole h order calls) ++ call_text w ∷ more → (c : Call) × P c × (call_text c ≡ call_text w)
 call-there P h order calls is s w more f all g e =
-    let tail = calls-behind s.order s.calls order calls (call_text w) [] more f.calls (formed-so-far h order calls is).calls (λ o d. call-bare w [] g.0) (ap (λ (xs : List (List ℕ)). drop 10 xs) e) in
+    let tail = calls-behind s.order s.calls order calls (call_text w) [] more f.calls (formed-so-far h order calls is).calls (λ o d. call-bare w [] g.0) (calls-same h is.head order calls s (call_text w ∷ more) f e).lines in
     call-at-place P s.calls calls w more all tail
 
 call-fits : (h : Head) (order : List ℕ) (calls : List Call) → IsSoFar h order calls → (s : Script) (w : Call) (more : List (List ℕ)) → IsRanged s → IsFormedCall w → script_lines s ≡ script_lines (whole h order calls) ++ call_text w ∷ more
     → is_ranged_call h.geometry h.hosts (kept_call w) ≡ true
 call-fits h order calls is s w more r g e =
+    let head = calls-same h is.head order calls s (call_text w ∷ more) (ranged-formed s r) e in
     let c = call-there (IsRangedCall s) h order calls is s w more (ranged-formed s r) r.calls g e in
     let formed : IsFormedCall c.0 = (omega (arith, c.1.0, r.most_hosts), form-action s.geometry c.0.action c.1.1) in
     let kept = same-kept c.0 w formed g c.2 in
     let tests : is_ranged_call s.geometry s.hosts (kept_call c.0) ≡ true = rw (lt-ltb c.0.host s.hosts c.1.0, ranged-again s.geometry c.0.action r.geometry.most_targets c.1.1) refl in
-    let a : is_ranged_call h.geometry s.hosts (kept_call c.0) ≡ true = subst (λ (x : Geometry). is_ranged_call x s.hosts (kept_call c.0) ≡ true) (same-geometry h order calls s (call_text w ∷ more) e) tests in
-    let b : is_ranged_call h.geometry h.hosts (kept_call c.0) ≡ true = subst (λ (n : ℕ). is_ranged_call h.geometry n (kept_call c.0) ≡ true) (hosts-same h order calls s (call_text w ∷ more) e) a in
+    let a : is_ranged_call h.geometry s.hosts (kept_call c.0) ≡ true = subst (λ (x : Geometry). is_ranged_call x s.hosts (kept_call c.0) ≡ true) head.geometry tests in
+    let b : is_ranged_call h.geometry h.hosts (kept_call c.0) ≡ true = subst (λ (n : ℕ). is_ranged_call h.geometry n (kept_call c.0) ≡ true) head.hosts a in
     subst (λ (k : Call). is_ranged_call h.geometry h.hosts k ≡ true) kept b
 
 -- one more call
@@ -369,13 +382,13 @@ grown-lines h order calls w = lines-more h order calls (w ∷ []) ∙ sym (appen
 call-formed : (h : Head) (order : List ℕ) (calls : List Call) → IsSoFar h order calls → (w : Call) → IsFormedCall w → Begins IsFormed (script_lines (whole h order calls) ++ call_text w ∷ [])
 call-formed h order calls is w g =
     let f = formed-so-far h order calls is in
-    record { script = whole h order (calls ++ w ∷ []); kind = record { maxima = f.maxima; order = f.order; calls = all-append IsFormedCall calls w f.calls g }; more = []; lines = grown-lines h order calls w }
+    record { script = whole h order (calls ++ w ∷ []); kind = record { version = f.version; maxima = f.maxima; order = f.order; calls = all-append IsFormedCall calls w f.calls g }; more = []; lines = grown-lines h order calls w }
 
 -- a call whose numbers are in range
 call-is-ranged : (h : Head) → IsHead h → (w : Call) → IsFormedCall w → is_ranged_call h.geometry h.hosts (kept_call w) ≡ true → (w.host < h.hosts) × IsRangedAction h.geometry w.action × (kept_call w ≡ w)
 call-is-ranged h is w g e =
     let p = both (nat_lt w.host h.hosts) (is_ranged h.geometry (kept_action w.action)) e in
-    let a = ranged-takes h.geometry w.action is.array.most_targets g.1 p.1 in
+    let a = ranged-takes h.geometry w.action is.shape.array.most_targets g.1 p.1 in
     (lt-from w.host h.hosts p.0, a.0, ap (λ (x : Action). record { host = w.host; action = x }) a.1)
 
 call-ranged : (h : Head) (order : List ℕ) (calls : List Call) → IsSoFar h order calls → (w : Call) → (w.host < h.hosts) × IsRangedAction h.geometry w.action → Begins IsRanged (script_lines (whole h order calls) ++ call_text w ∷ [])
@@ -385,7 +398,9 @@ call-ranged h order calls is w g =
     record {
       script = whole h order (calls ++ w ∷ []);
       kind = record {
+        version = r.version;
         geometry = r.geometry;
+        targets = r.targets;
         least_buffer = r.least_buffer;
         most_buffer = r.most_buffer;
         maxima = r.maxima;
@@ -423,7 +438,7 @@ call-size h order calls rest is bare bad =
           let k = kept-ranged s.geometry c.0.action g.begins.kind.geometry.most_targets c.1.1 in
           let formed : IsFormedCall c.0 = (omega (arith, c.1.0, g.begins.kind.most_hosts), k.0) in
           let kept = same-kept c.0 w formed bad.formed c.2 in
-          let here : is_sized_call h.geometry (kept_call c.0) ≡ true = subst (λ (x : Geometry). is_sized_call x (kept_call c.0) ≡ true) (same-geometry h order calls s (call_text w ∷ g.begins.more) lines-w) k.2 in
+          let here : is_sized_call h.geometry (kept_call c.0) ≡ true = subst (λ (x : Geometry). is_sized_call x (kept_call c.0) ≡ true) (calls-same h is.head order calls s (call_text w ∷ g.begins.more) f lines-w).geometry k.2 in
           bad.holds.1 (subst (λ (x : Call). is_sized_call h.geometry x ≡ true) kept here),
     )
 
@@ -453,7 +468,7 @@ call-outcome bytes rest h order calls n is e number bare =
     let ranged-is : ranged (kept_call w) ≡ true = subst (λ (c : Call). ranged c ≡ true) r.value r.ranged_is in
     let p = call-is-ranged h is.head w r.formed ranged-is in
     let sized-is : sized w ≡ true = subst (λ (c : Call). sized c ≡ true) (r.value ∙ p.2) r.sized_is in
-    let action = sized-takes h.geometry w.action is.head.array.least_block p.1 sized-is in
+    let action = sized-takes h.geometry w.action is.head.shape.array.least_block p.1 sized-is in
     let more : IsSoFar h order (calls ++ w ∷ []) = record { head = is.head; turns = is.turns; order = is.order; calls = all-append (λ (c : Call). (c.host < h.hosts) × IsAction h.geometry c.action) calls w is.calls (p.0, action) } in
     let split : bytes ≡ flat_map line (script_lines (whole h order (calls ++ w ∷ []))) ++ x.1 = r.split ∙ ap (λ (ts : List (List ℕ)). flat_map line ts ++ x.1) (sym (lines-more h order calls (w ∷ []))) in
     let same : w ≡ x.0 = sym (r.value ∙ p.2) in

@@ -6,7 +6,6 @@ use Rattle.std.proofs.lemmas.Grind.{flat_map-append}
 use Rattle.std.proofs.lemmas.Option.{same_Some}
 use Rattle.host_scripts.specs.declared.script.Script.{Script}
 use Rattle.host_scripts.specs.declared.script.Call.{Call}
-use Rattle.std.specs.Str.Parse.{digits_value}
 use Rattle.std.proofs.lemmas.Bool.Decides.{nat_tests}
 use Rattle.stripe_layout.specs.declared.geometry.Geometry.{Geometry}
 use Rattle.host_scripts.specs.declared.script.Action.{Action}
@@ -15,17 +14,15 @@ use Rattle.host_scripts.specs.declared.script.Cause.{Cause}
 use Rattle.host_scripts.specs.declared.script.Cause.TheVariants.{Form, Range, Size}
 use Rattle.text_fields.specs.Spelling.{line, numeral}
 use Rattle.host_scripts.specs.Scripts.{script_lines, IsAction, IsCall, IsScript}
-use Rattle.text_fields.specs.Reading.{stripped}
 use Rattle.host_scripts.specs.Loose.{number_of}
 use Rattle.host_scripts.specs.Reading.{Fault, any, within, line_at, number_at}
 use Rattle.host_scripts.specs.Refusals.{IsFormedAction, IsFormedCall, IsFormed, IsRangedAction, IsRangedCall, IsRanged, Begins, IsCause}
-use Rattle.text_fields.proofs.NumeralLaws.{numeral-is}
 use Rattle.text_fields.specs.Laws.{lacks}
-use Rattle.text_fields.proofs.Cuts.{stripped-again}
 use Rattle.host_scripts.proofs.Outcomes.{Outcome}
 use Rattle.host_scripts.proofs.Rules.{IsRule, LineIs, LineBad, cut-line, line-outcome}
 use Rattle.host_scripts.proofs.Texts.{cap, number_rule}
-use Rattle.host_scripts.proofs.Again.{within-true}
+use Rattle.host_scripts.proofs.NumberLines.{within-true}
+use Rattle.host_scripts.proofs.ShapeTexts.{same-number}
 
 -- a refusal, but for the fact that no script is spelt
 pub record Near (bytes : List ℕ) (number : ℕ) (cause : Cause) : Type 0 where
@@ -107,6 +104,7 @@ range-action g Resync h = h
 -- scripts in range are in form, and what the grammar allows is in range
 pub ranged-formed : (s : Script) → IsRanged s → IsFormed s
 ranged-formed s is = record {
+  version = is.version;
   maxima = is.maxima;
   order = each-number (λ h. h < s.hosts) (λ h. h < 26) (λ h lt. omega (arith, lt, is.most_hosts)) s.order is.order;
   calls = each-call (IsRangedCall s) IsFormedCall (λ call h. (omega (arith, h.0, is.most_hosts), form-action s.geometry call.action h.1)) s.calls is.calls;
@@ -114,7 +112,9 @@ ranged-formed s is = record {
 
 pub script-ranged : (s : Script) → IsScript s → IsRanged s
 script-ranged s is = record {
+  version = is.version;
   geometry = is.geometry;
+  targets = is.targets;
   least_buffer = is.least_buffer;
   most_buffer = is.most_buffer;
   maxima = is.maxima;
@@ -165,13 +165,7 @@ placed rule text_of kept Formed is ranged sized bytes texts rest n split number 
 
 -- ---- numbers
 
-pub same-numeral : (m n : ℕ) → numeral m ≡ numeral n → m ≡ n
-same-numeral m n e = sym (numeral-is m).value ∙ ap (digits_value 10) e ∙ (numeral-is n).value
-
-pub same-number : (keyword : List ℕ) (m n : ℕ) → keyword ++ numeral m ≡ keyword ++ numeral n → m ≡ n
-same-number keyword m n e = same-numeral m n (same_Some (numeral m) (numeral n) (sym (stripped-again keyword (numeral m)) ∙ ap (stripped keyword) e ∙ stripped-again keyword (numeral n)))
-
-within-parts : (least most n : ℕ) → most ≤ 4294967295 → within least most (cap n) ≡ true → (least ≤ n) × (n ≤ most) × (cap n ≡ n)
+pub within-parts : (least most n : ℕ) → most ≤ 4294967295 → within least most (cap n) ≡ true → (least ≤ n) × (n ≤ most) × (cap n ≡ n)
 within-parts least most n small h =
     let range : (least ≤ cap n) × (cap n ≤ most) = grind (arith, nat_tests, h) in
     let e : cap n ≡ n = omega (arith, range) in
@@ -193,7 +187,7 @@ number-read keyword least most bytes texts x small g =
 
 pub number-placed : (keyword : List ℕ) (least most : ℕ) → lacks 10 keyword ≡ true → most ≤ 4294967295 → (field : Script → ℕ)
     (bytes : List ℕ) (texts : List (List ℕ)) (rest : List ℕ) (n : ℕ) → bytes ≡ flat_map line texts ++ rest → n ≡ length texts + 1 → Begins IsScript texts
-    → ((s : Script) (text : List ℕ) (more : List (List ℕ)) → script_lines s ≡ texts ++ text ∷ more → keyword ++ numeral (field s) ≡ text)
+    → ((s : Script) (text : List ℕ) (more : List (List ℕ)) → IsFormed s → script_lines s ≡ texts ++ text ∷ more → keyword ++ numeral (field s) ≡ text)
     → ((m : ℕ) → Begins IsFormed (texts ++ (keyword ++ numeral m) ∷ []))
     → ((s : Script) (text : List ℕ) (more : List (List ℕ)) → IsRanged s → script_lines s ≡ texts ++ text ∷ more → (least ≤ field s) × (field s ≤ most))
     → Outcome (NumberRead keyword least most bytes texts) (Near bytes) (number_at n keyword least most rest)
@@ -202,10 +196,10 @@ number-placed keyword least most clean small field bytes texts rest n split numb
     let text_of : ℕ → List ℕ = λ n. keyword ++ numeral n in
     let Formed : ℕ → Type 0 = λ n. Unit {0} in
     let place : IsPlace text_of cap Formed (within least most) texts rest = record {
-      here = λ s text more after f e split. record { word = field s; spelt = sym (here s text more e); formed = tt };
+      here = λ s text more after f e split. record { word = field s; spelt = sym (here s text more f e); formed = tt };
       formed = λ m _. formed m;
       fits = λ s m more r f e.
-          let same = same-number keyword (field s) m (here s (keyword ++ numeral m) more e) in
+          let same = same-number keyword (field s) m (here s (keyword ++ numeral m) more (ranged-formed s r) e) in
           let p = fits s (keyword ++ numeral m) more r e in
           within-true least most m small (omega (arith, same, p.0)) (omega (arith, same, p.1));
     } in

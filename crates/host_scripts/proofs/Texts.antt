@@ -1,5 +1,5 @@
 -- The rules of the header's lines.
-use Rattle.std.proofs.Common.{◌≡◌, ℕ, ◌+◌, ◌-◌, ◌<◌, ◌≤◌, ◌&&◌, ◌==◌, nat_lt, nat_le, Bool, true, false, List, [], ◌∷◌, ◌++◌, length, map, get_or, min, Some, refl, sym, ap, ◌∙◌, arith}
+use Rattle.std.proofs.Common.{◌≡◌, ℕ, ◌+◌, ◌-◌, ◌<◌, ◌≤◌, ◌&&◌, ◌==◌, nat_lt, nat_le, Bool, true, false, List, [], ◌∷◌, ◌++◌, length, map, get_or, min, inl, inr, Option, Some, None, refl, sym, ap, ◌∙◌, arith}
 use Rattle.std.specs.Prelude.{codes, if◌then◌else◌}
 use Rattle.std.specs.List.{find, list_all, AllByRecursion}
 use Rattle.std.specs.Str.{bytes_eq}
@@ -9,13 +9,14 @@ use Rattle.std.proofs.lemmas.Slice.Eq.{bytes_eq-Decides}
 use Rattle.stripe_layout.specs.declared.mode.Mode.{Mode}
 use Rattle.stripe_layout.specs.declared.mode.Mode.TheVariants.{Supervised, ThirdParty, Readback}
 use Rattle.text_fields.specs.Spelling.{numeral}
-use Rattle.host_scripts.specs.Scripts.{letter, maxima_text, mode_text}
+use Rattle.host_scripts.specs.Scripts.{letter, version_text, maxima_text, mode_text}
 use Rattle.text_fields.specs.Reading.{◌>>=◌, cut_at, stripped}
-use Rattle.host_scripts.specs.Loose.{numeral_of, exact_of, number_of, three_of, maxima_of, modes, mode_of, is_letter, are_letters, letters_of, order_of}
+use Rattle.host_scripts.specs.Loose.{numeral_of, exact_of, else_of, version_of, number_of, three_of, maxima_of, modes, mode_of, is_letter, are_letters, letters_of, order_of}
 use Rattle.text_fields.proofs.Cuts.{bind-some, lacks-append, cut-takes, cut-again, stripped-takes, stripped-again}
 use Rattle.text_fields.specs.Laws.{lacks}
 use Rattle.text_fields.proofs.NumeralLaws.{IsCapped, capped-takes, capped-again, numeral-lacks}
 use Rattle.host_scripts.proofs.Rules.{Says, IsRule}
+use Rattle.host_scripts.proofs.ShapeTexts.{IsKnown}
 
 -- the number that the code keeps of one of any size
 abbrev pub cap : ℕ → ℕ
@@ -41,12 +42,39 @@ exact-again want value =
     let same : bytes_eq want want ≡ true = (bytes_eq-Decides want want).1 refl in
     rw same refl
 
-pub version_rule : IsRule {V = ℕ} {W = ℕ} (exact_of (codes "xorscript 1") 1) (λ w. codes "xorscript 1") (λ w. w) (λ w. w ≡ 1)
-version_rule = record {
-  takes = λ text v e. let g = exact-takes (codes "xorscript 1") 1 text v e in record { word = v; spelt = g.0; formed = sym g.1; value = refl };
-  again = λ w e. exact-again (codes "xorscript 1") 1 ∙ ap (λ (k : ℕ). Some k) (sym e);
-  clean = λ w e. refl;
-}
+-- ---- the version
+
+version-by : (text : List ℕ) (v : ℕ) (o : Option ℕ) → exact_of (version_text 1) 1 text ≡ o → else_of (λ version. Some version) o (exact_of (version_text 2) 2 text) ≡ Some v → Says version_text (λ w. w) IsKnown text v
+version-by text v (Some w) h e =
+    let g = exact-takes (version_text 1) 1 text w h in
+    let one : v ≡ 1 = sym (g.1 ∙ same_Some w v e) in
+    record { word = v; spelt = g.0 ∙ ap version_text (sym one); formed = inl one; value = refl }
+version-by text v None h e =
+    let g = exact-takes (version_text 2) 2 text v e in
+    record { word = v; spelt = g.0 ∙ ap version_text g.1; formed = inr (sym g.1); value = refl }
+
+version-takes : (text : List ℕ) (v : ℕ) → version_of text ≡ Some v → Says version_text (λ w. w) IsKnown text v
+unfolding version_of
+version-takes text v e = version-by text v (exact_of (version_text 1) 1 text) refl e
+
+first-again : version_of (version_text 1) ≡ Some 1
+unfolding version_of exact_of
+first-again = refl
+
+second-again : version_of (version_text 2) ≡ Some 2
+unfolding version_of exact_of
+second-again = refl
+
+version-again : (w : ℕ) → IsKnown w → version_of (version_text w) ≡ Some w
+version-again w (inl one) = ap (λ (v : ℕ). version_of (version_text v)) one ∙ first-again ∙ ap (λ (v : ℕ). Some v) (sym one)
+version-again w (inr two) = ap (λ (v : ℕ). version_of (version_text v)) two ∙ second-again ∙ ap (λ (v : ℕ). Some v) (sym two)
+
+version-clean : (w : ℕ) → IsKnown w → lacks 10 (version_text w) ≡ true
+version-clean w (inl one) = ap (λ (v : ℕ). lacks 10 (version_text v)) one
+version-clean w (inr two) = ap (λ (v : ℕ). lacks 10 (version_text v)) two
+
+pub version_rule : IsRule version_of version_text (λ w. w) IsKnown
+version_rule = record { takes = version-takes; again = version-again; clean = version-clean }
 
 -- ---- a number
 

@@ -5,7 +5,7 @@ use Rattle.std.proofs.lemmas.Slice.Eq.{bytes_eq-Decides}
 use Rattle.byteorder.specs.Endian.{big_number}
 use Rattle.cdb_fields.specs.Fields.{number_at}
 use Rattle.cdb_fields.proofs.Cells.{cells, cells_from, number_4_fits, number_2_fits}
-use Rattle.sbc_cdbs.specs.Cdbs.{spelling, Fits, Spells}
+use Rattle.sbc_cdbs.specs.Cdbs.{spelling, Fits, SpellsCdb}
 use Rattle.sbc_cdbs.specs.Faults.{IsFault}
 use Rattle.sbc_cdbs.specs.declared.commands.Command.{Command}
 use Rattle.sbc_cdbs.specs.declared.commands.Command.TheVariants.{Read, Write, XdWrite, XpWrite, XdRead, XdWriteRead, ModeSelect, ModeSense, XdWriteExtended, Rebuild, Regenerate}
@@ -53,7 +53,7 @@ of-command (XdWriteExtended dpo fua disable lba second count address) h = refl
 of-command (Rebuild dpo fua intdata lba count list) h = refl
 of-command (Regenerate dpo fua intdata lba count list) h = refl
 
-pub decoded-blocks : (cdb : List ℕ) (v : Command) → Spells cdb v → transferred cdb ≡ transferred_by v
+pub decoded-blocks : (cdb : List ℕ) (v : Command) → SpellsCdb cdb v → transferred cdb ≡ transferred_by v
 decoded-blocks cdb v h = ap transferred h.0 ∙ of-command v h.1
 
 -- the numbers of ten bytes are below 2 ^ 32 and 2 ^ 16

@@ -4,4 +4,3 @@ pub mod Reading
 pub mod Heads
 pub mod Refusals
 pub mod Limits
-pub mod Printed

@@ -6,7 +6,7 @@ use Rattle.cdb_fields.specs.Fields.{is_one, number_at}
 use Rattle.sbc_cdbs.specs.Cdbs.{spelling}
 use Rattle.sbc_cdbs.specs.declared.commands.Command.{Command}
 use Rattle.sbc_cdbs.specs.declared.commands.Command.TheVariants as commands
-use Rattle.stripe_layout.specs.Layout.{capacity_of}
+use Rattle.stripe_layout.specs.Layout.{capacity_of, rows_of}
 use Rattle.stripe_layout.specs.declared.geometry.Geometry.{Geometry}
 use Rattle.host_scripts.specs.declared.script.Script.{Script}
 use Rattle.host_scripts.specs.declared.script.Call.{Call}
@@ -59,7 +59,7 @@ all_blocks g calls = sum_by (λ call. min (blocks_of g call.action) (capacity_of
 
 -- the bytes of all the targets together
 abbrev pub media_of : Geometry → ℕ
-media_of g = g.targets * (g.stripes * g.unit) * g.block
+media_of g = g.targets * rows_of g * g.block
 
 -- a call goes over all stripes
 abbrev pub is_pass : Action → Bool

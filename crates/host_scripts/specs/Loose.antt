@@ -2,6 +2,7 @@
 use Rattle.std.specs.Prelude.{ℕ, ◌-◌, ◌==◌, ◌&&◌, nat_lt, nat_le, Bool, if◌then◌else◌, List, [], ◌∷◌, length, map, codes, Option, Some, None}
 use Rattle.std.specs.List.{find, list_all}
 use Rattle.std.specs.Str.{bytes_eq}
+use Rattle.stripe_layout.specs.declared.areas.Area.{Area}
 use Rattle.stripe_layout.specs.declared.mode.Mode.{Mode}
 use Rattle.stripe_layout.specs.declared.mode.Mode.TheVariants.{Supervised, ThirdParty, Readback}
 use Rattle.host_scripts.specs.declared.script.Call.{Call}
@@ -9,7 +10,7 @@ use Rattle.host_scripts.specs.declared.script.Action.{Action}
 use Rattle.host_scripts.specs.declared.script.Action.TheVariants.{Read, Write, Fill, Raw, Lose, Reset, DropNext, Replace, Rebuild, Resync}
 use Rattle.host_scripts.specs.declared.actions.Operation.{Operation}
 use Rattle.host_scripts.specs.declared.actions.Operation.TheVariants.{Losing, Resetting, Dropping, Replacing, Rebuilding}
-use Rattle.host_scripts.specs.Scripts.{mode_text}
+use Rattle.host_scripts.specs.Scripts.{version_text, mode_text}
 use Rattle.text_fields.specs.Reading.{◌>>=◌, cut_at, stripped, capped_of, filled_of, data_of, one_byte_of}
 
 -- the number of a numeral, or 2 ^ 32 where it is greater: more than each number that a script may have
@@ -19,6 +20,15 @@ numeral_of text = capped_of 4294967296 text
 -- this text and no other
 unfoldable pub exact_of : {V : Type 0} → List ℕ → V → List ℕ → Option V
 exact_of want value text = if bytes_eq text want then Some value else None
+
+-- what f reads of a first text, or else the other
+abbrev pub else_of : {A B : Type 0} → (A → Option B) → Option A → Option B → Option B
+else_of f (Some x) other = f x
+else_of f None other = other
+
+-- the version whose line this is
+unfoldable pub version_of : List ℕ → Option ℕ
+version_of text = else_of (λ version. Some version) (exact_of (version_text 1) 1 text) (exact_of (version_text 2) 2 text)
 
 -- a keyword and a number
 unfoldable pub number_of : List ℕ → List ℕ → Option ℕ
@@ -39,11 +49,6 @@ maxima_of text = do
   write ← cut_at 32 all
   regenerate ← cut_at 32 write.1
   three_of write.0 regenerate.0 regenerate.1
-
--- what f reads of a first text, or else the other
-abbrev pub else_of : {A B : Type 0} → (A → Option B) → Option A → Option B → Option B
-else_of f (Some x) other = f x
-else_of f None other = other
 
 -- all modes
 abbrev pub modes : List Mode
@@ -82,6 +87,12 @@ two_of text = do
   first ← addressed_of text
   second ← numeral_of first.1
   Some (first.0, second)
+
+-- the unit and the stripes of an area behind their keyword
+unfoldable pub area_of : List ℕ → Option Area
+area_of text = do
+  numbers ← stripped (codes "area ") text >>= two_of
+  Some (record { unit = numbers.0; stripes = numbers.1 })
 
 -- what stands behind `read `
 unfoldable pub read_of : List ℕ → Option Action

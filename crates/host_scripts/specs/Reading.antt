@@ -2,6 +2,8 @@
 -- refused and the first cause in it. A line is read with numbers of any size before its ranges are tested.
 use Rattle.std.specs.Prelude.{ℕ, ◌≡◌, ◌+◌, ◌*◌, ◌%◌, ◌==◌, ◌&&◌, ◌||◌, nat_lt, nat_le, zero, suc, Bool, true, if◌then◌else◌, List, [], ◌∷◌, length, get_or, Option, Some, None, Result, Ok, Err, codes}
 use Rattle.std.specs.List.{list_all}
+use Rattle.stripe_layout.specs.Layout.{greatest_unit}
+use Rattle.stripe_layout.specs.declared.areas.Area.{Area}
 use Rattle.stripe_layout.specs.declared.geometry.Geometry.{Geometry}
 use Rattle.stripe_layout.specs.declared.mode.Mode.{Mode}
 use Rattle.host_scripts.specs.declared.script.Script.{Script}
@@ -13,7 +15,8 @@ use Rattle.host_scripts.specs.declared.script.Cause.TheVariants.{Form, Range, Si
 use Rattle.host_scripts.specs.declared.script.ScriptFault.{ScriptFault}
 use Rattle.host_scripts.specs.declared.script.ScriptFault.TheVariants as faults
 use Rattle.text_fields.specs.Reading.{cut_at, stripped}
-use Rattle.host_scripts.specs.Loose.{exact_of, number_of, maxima_of, mode_of, order_of, call_of}
+use Rattle.host_scripts.specs.Scripts.{most_targets}
+use Rattle.host_scripts.specs.Loose.{version_of, number_of, area_of, maxima_of, mode_of, order_of, call_of}
 
 -- a line and a cause
 abbrev pub Fault : Type 0
@@ -76,32 +79,74 @@ is_maximum unit n = (n == 0) || within unit 65535 n
 abbrev pub are_maxima : ℕ → List ℕ → Bool
 are_maxima unit maxima = nat_le (get_or maxima 0 0) 65535 && is_maximum unit (get_or maxima 1 0) && is_maximum unit (get_or maxima 2 0)
 
--- the lines of the array's shape
-unfoldable pub geometry_at : List ℕ → Result (Geometry × List ℕ) Fault
-geometry_at bytes = do
-  targets ← number_at 2 (codes "targets ") 3 16 bytes
-  block ← number_at 3 (codes "block ") 1 4096 targets.1
-  unit ← number_at 4 (codes "unit ") 1 4096 block.1
-  stripes ← number_at 5 (codes "stripes ") 1 4096 unit.1
-  Ok (record { targets = targets.0; block = block.0; unit = unit.0; stripes = stripes.0 }, stripes.1)
+-- the version
+unfoldable pub version_at : List ℕ → Result (ℕ × List ℕ) Fault
+version_at bytes = line_at 1 any any version_of bytes
 
--- what each target starts with: its buffer and its maxima
-unfoldable pub targets_at : ℕ → List ℕ → Result (ℕ × List ℕ × List ℕ) Fault
-targets_at unit bytes = do
-  buffer ← number_at 6 (codes "buffer ") unit 65536 bytes
-  maxima ← line_at 7 (are_maxima unit) any maxima_of buffer.1
+-- the one area of version 1
+unfoldable pub single_at : List ℕ → Result (List Area × List ℕ) Fault
+single_at bytes = do
+  unit ← number_at 4 (codes "unit ") 1 4096 bytes
+  stripes ← number_at 5 (codes "stripes ") 1 4096 unit.1
+  Ok (record { unit = unit.0; stripes = stripes.0 } ∷ [], stripes.1)
+
+-- the numbers of an area are in range
+abbrev pub is_area : Area → Bool
+is_area a = within 1 4096 a.unit && within 1 4096 a.stripes
+
+-- the area of the next line
+unfoldable pub area_at : ℕ → List ℕ → Result (Area × List ℕ) Fault
+area_at n bytes = line_at n is_area any area_of bytes
+
+-- so many areas, a line each
+unfoldable pub areas_at : ℕ → ℕ → List ℕ → Result (List Area × List ℕ) Fault
+areas_at zero n bytes = Ok ([], bytes)
+areas_at (suc count) n bytes = do
+  first ← area_at n bytes
+  others ← areas_at count (n + 1) first.1
+  Ok (first.0 ∷ others.0, others.1)
+
+-- the areas of version 2
+unfoldable pub several_at : List ℕ → Result (List Area × List ℕ) Fault
+several_at bytes = do
+  count ← number_at 4 (codes "areas ") 1 8 bytes
+  areas_at count.0 5 count.1
+
+-- the areas of either version
+abbrev pub version_areas_at : ℕ → List ℕ → Result (List Area × List ℕ) Fault
+version_areas_at version bytes = if version == 2 then several_at bytes else single_at bytes
+
+-- the lines of the version and of the array's shape
+unfoldable pub shape_at : List ℕ → Result (ℕ × Geometry × List ℕ) Fault
+shape_at bytes = do
+  version ← version_at bytes
+  targets ← number_at 2 (codes "targets ") 3 (most_targets version.0) version.1
+  block ← number_at 3 (codes "block ") 1 4096 targets.1
+  areas ← version_areas_at version.0 block.1
+  Ok (version.0, record { targets = targets.0; block = block.0; areas = areas.0 }, areas.1)
+
+-- the line behind those of the shape, counted from 1
+abbrev pub buffer_line : ℕ → List Area → ℕ
+buffer_line version areas = if version == 2 then 5 + length areas else 6
+
+-- what each target starts with: its buffer and its maxima, on this line and the next
+unfoldable pub targets_at : ℕ → ℕ → List ℕ → Result (ℕ × List ℕ × List ℕ) Fault
+targets_at unit n bytes = do
+  buffer ← number_at n (codes "buffer ") unit 65536 bytes
+  maxima ← line_at (n + 1) (are_maxima unit) any maxima_of buffer.1
   Ok (buffer.0, maxima.0, maxima.1)
 
--- how the hosts run: the mode, the seed and their number
-unfoldable pub hosts_at : List ℕ → Result (Mode × ℕ × ℕ × List ℕ) Fault
-hosts_at bytes = do
-  mode ← line_at 8 any any mode_of bytes
-  seed ← number_at 9 (codes "seed ") 0 4294967295 mode.1
-  hosts ← number_at 10 (codes "hosts ") 1 26 seed.1
+-- how the hosts run: the mode, the seed and their number, on this line and the next two
+unfoldable pub hosts_at : ℕ → List ℕ → Result (Mode × ℕ × ℕ × List ℕ) Fault
+hosts_at n bytes = do
+  mode ← line_at n any any mode_of bytes
+  seed ← number_at (n + 1) (codes "seed ") 0 4294967295 mode.1
+  hosts ← number_at (n + 2) (codes "hosts ") 1 26 seed.1
   Ok (mode.0, seed.0, hosts.0, hosts.1)
 
--- what the ten lines say that each script begins with
+-- what the lines say that each script begins with
 pub record Head : Type 0 where
+  pub version : ℕ
   pub geometry : Geometry
   pub buffer : ℕ
   pub maxima : List ℕ
@@ -109,14 +154,17 @@ pub record Head : Type 0 where
   pub seed : ℕ
   pub hosts : ℕ
 
--- these ten lines
+-- these lines
 unfoldable pub head_at : List ℕ → Result (Head × List ℕ) Fault
 head_at bytes = do
-  first ← line_at {V = ℕ} 1 any any (exact_of (codes "xorscript 1") 1) bytes
-  geometry ← geometry_at first.1
-  targets ← targets_at geometry.0.unit geometry.1
-  hosts ← hosts_at targets.2
-  Ok (record { geometry = geometry.0; buffer = targets.0; maxima = targets.1; mode = hosts.0; seed = hosts.1; hosts = hosts.2 }, hosts.3)
+  shape ← shape_at bytes
+  targets ← targets_at (greatest_unit shape.1) (buffer_line shape.0 shape.1.areas) shape.2
+  hosts ← hosts_at (buffer_line shape.0 shape.1.areas + 2) targets.2
+  Ok (record { version = shape.0; geometry = shape.1; buffer = targets.0; maxima = targets.1; mode = hosts.0; seed = hosts.1; hosts = hosts.2 }, hosts.3)
+
+-- the line behind them, counted from 1
+abbrev pub turns_line : Head → ℕ
+turns_line h = buffer_line h.version h.geometry.areas + 5
 
 -- no more than 1000 turns, each of a host
 abbrev pub are_turns : ℕ → List ℕ → Bool
@@ -128,8 +176,8 @@ where_given (Some behind) bytes read = read
 where_given None bytes read = Ok ([], bytes)
 
 -- the line of the first turns, where one stands there
-unfoldable pub order_at : ℕ → List ℕ → Result (List ℕ × List ℕ) Fault
-order_at hosts bytes = where_given (stripped (codes "order ") bytes) bytes (line_at 11 (are_turns hosts) any order_of bytes)
+unfoldable pub order_at : ℕ → ℕ → List ℕ → Result (List ℕ × List ℕ) Fault
+order_at hosts n bytes = where_given (stripped (codes "order ") bytes) bytes (line_at n (are_turns hosts) any order_of bytes)
 
 -- the numbers of an action are in range
 abbrev pub is_ranged : Geometry → Action → Bool
@@ -177,15 +225,15 @@ calls_at g hosts (suc turns) n (b ∷ bytes) = do
   others ← calls_at g hosts turns (n + 1) first.1
   Ok (first.0 ∷ others)
 
--- the line of the first call
-abbrev pub first_line : List ℕ → ℕ
-first_line [] = 11
-first_line (h ∷ turns) = 12
+-- the line of the first call, behind that of the turns, where one stands on this line
+abbrev pub first_line : ℕ → List ℕ → ℕ
+first_line n [] = n
+first_line n (h ∷ turns) = n + 1
 
 -- the whole script
 unfoldable pub script_at : List ℕ → Result Script Fault
 script_at bytes = do
   head ← head_at bytes
-  order ← order_at head.0.hosts head.1
-  calls ← calls_at head.0.geometry head.0.hosts (length order.1) (first_line order.0) order.1
-  Ok (record { geometry = head.0.geometry; buffer = head.0.buffer; maxima = head.0.maxima; mode = head.0.mode; seed = head.0.seed; hosts = head.0.hosts; order = order.0; calls = calls })
+  order ← order_at head.0.hosts (turns_line head.0) head.1
+  calls ← calls_at head.0.geometry head.0.hosts (length order.1) (first_line (turns_line head.0) order.0) order.1
+  Ok (record { version = head.0.version; geometry = head.0.geometry; buffer = head.0.buffer; maxima = head.0.maxima; mode = head.0.mode; seed = head.0.seed; hosts = head.0.hosts; order = order.0; calls = calls })

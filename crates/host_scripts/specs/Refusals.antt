@@ -12,7 +12,7 @@ use Rattle.host_scripts.specs.declared.script.Cause.TheVariants.{Form, Range, Si
 use Rattle.host_scripts.specs.declared.script.ScriptFault.{ScriptFault}
 use Rattle.host_scripts.specs.declared.script.ScriptFault.TheVariants as faults
 use Rattle.text_fields.specs.Spelling.{line, AreBytes}
-use Rattle.host_scripts.specs.Scripts.{script_lines, IsRangedWith, IsScript, Spells}
+use Rattle.host_scripts.specs.Scripts.{script_lines, IsVersion, IsRangedWith, IsScript, SpellsScript}
 
 -- bytes are bytes, and a CDB has at least one
 abbrev pub IsFormedAction : Action → Type 0
@@ -31,8 +31,9 @@ IsFormedAction Resync = Unit {0}
 abbrev pub IsFormedCall : Call → Type 0
 IsFormedCall call = (call.host < 26) × IsFormedAction call.action
 
--- a script whose numbers are of any size
+-- a script whose numbers are of any size, its areas' number too
 pub record IsFormed (s : Script) : Type 0 where
+  pub version : IsVersion s.version s.geometry.areas
   pub maxima : length s.maxima ≡ 3
   pub order : AllByRecursion (λ h. h < 26) s.order
   pub calls : AllByRecursion IsFormedCall s.calls
@@ -81,7 +82,7 @@ IsCause texts rest Size = GoesOn IsRanged texts rest × (GoesOn IsScript texts r
 -- the bytes spell no script; the lines before the one of this number are those that a script begins with, and it is
 -- refused for this cause
 pub record IsRefusal (bytes : List ℕ) (number : ℕ) (cause : Cause) : Type 0 where
-  pub unspelt : (s : Script) → Spells bytes s → ⊥
+  pub unspelt : (s : Script) → SpellsScript bytes s → ⊥
   pub texts : List (List ℕ)
   pub rest : List ℕ
   pub split : bytes ≡ flat_map line texts ++ rest

@@ -1,10 +1,11 @@
 -- What a script is, and the bytes that spell it.
-use Rattle.std.specs.Prelude.{ℕ, ◌≡◌, ◌+◌, ◌*◌, ◌^◌, ◌<◌, ◌≤◌, ◌⊎◌, List, [], ◌∷◌, ◌++◌, length, get_or, map, codes}
+use Rattle.std.specs.Prelude.{ℕ, ◌≡◌, ◌+◌, ◌*◌, ◌^◌, ◌<◌, ◌≤◌, ◌==◌, ◌⊎◌, if◌then◌else◌, List, [], ◌∷◌, ◌++◌, length, get_or, map, codes}
 use Rattle.std.specs.List.{flat_map, AllByRecursion}
 use Rattle.blocks_core.specs.Blocks.{AreWhole}
 pub use Rattle.text_fields.specs.Spelling.{line, numeral, nibble, hex, hex_or_dash}
 use Rattle.text_fields.specs.Spelling.{AreBytes}
-use Rattle.stripe_layout.specs.Layout.{IsArray}
+use Rattle.stripe_layout.specs.Layout.{IsArray, greatest_unit}
+use Rattle.stripe_layout.specs.declared.areas.Area.{Area}
 use Rattle.stripe_layout.specs.declared.geometry.Geometry.{Geometry}
 use Rattle.stripe_layout.specs.declared.mode.Mode.{Mode}
 use Rattle.stripe_layout.specs.declared.mode.Mode.TheVariants.{Supervised, ThirdParty, Readback}
@@ -49,25 +50,52 @@ abbrev pub order_texts : List ℕ → List (List ℕ)
 order_texts [] = []
 order_texts (h ∷ hosts) = (codes "order " ++ map letter (h ∷ hosts)) ∷ []
 
--- the lines of a script, each without its end
-abbrev pub script_lines : Script → List (List ℕ)
-script_lines s =
-    codes "xorscript 1"
-    ∷ (codes "targets " ++ numeral s.geometry.targets)
-    ∷ (codes "block " ++ numeral s.geometry.block)
-    ∷ (codes "unit " ++ numeral s.geometry.unit)
-    ∷ (codes "stripes " ++ numeral s.geometry.stripes)
-    ∷ (codes "buffer " ++ numeral s.buffer)
+-- the first line
+abbrev pub version_text : ℕ → List ℕ
+version_text version = if version == 2 then codes "xorscript 2" else codes "xorscript 1"
+
+-- the line of an area: the blocks of its unit, and its stripes
+abbrev pub area_text : Area → List ℕ
+area_text a = codes "area " ++ (numeral a.unit ++ 32 ∷ numeral a.stripes)
+
+-- the one area of an array, with a line for each of its numbers
+abbrev pub single_texts : List Area → List (List ℕ)
+single_texts [] = []
+single_texts (a ∷ more) = (codes "unit " ++ numeral a.unit) ∷ (codes "stripes " ++ numeral a.stripes) ∷ []
+
+-- how many areas there are, and a line for each of them
+abbrev pub several_texts : List Area → List (List ℕ)
+several_texts areas = (codes "areas " ++ numeral (length areas)) ∷ map area_text areas
+
+abbrev pub areas_texts : ℕ → List Area → List (List ℕ)
+areas_texts version areas = if version == 2 then several_texts areas else single_texts areas
+
+-- the version and the array's shape
+abbrev pub shape_texts : ℕ → Geometry → List (List ℕ)
+shape_texts version g =
+    version_text version
+    ∷ (codes "targets " ++ numeral g.targets)
+    ∷ (codes "block " ++ numeral g.block)
+    ∷ areas_texts version g.areas
+
+-- what each target starts with, and how the hosts run
+abbrev pub start_texts : Script → List (List ℕ)
+start_texts s =
+    (codes "buffer " ++ numeral s.buffer)
     ∷ maxima_text (get_or s.maxima 0 0) (get_or s.maxima 1 0) (get_or s.maxima 2 0)
     ∷ mode_text s.mode
     ∷ (codes "seed " ++ numeral s.seed)
     ∷ (codes "hosts " ++ numeral s.hosts)
-    ∷ (order_texts s.order ++ map call_text s.calls)
+    ∷ []
+
+-- the lines of a script, each without its end
+abbrev pub script_lines : Script → List (List ℕ)
+script_lines s = shape_texts s.version s.geometry ++ (start_texts s ++ (order_texts s.order ++ map call_text s.calls))
 
 -- how many lines stand before the calls: a call, counted from 0, stands on the line of its number after these,
 -- counted from 1
 abbrev pub header_lines : Script → ℕ
-header_lines s = 10 + length (order_texts s.order)
+header_lines s = length (shape_texts s.version s.geometry) + 5 + length (order_texts s.order)
 
 -- all the bytes of a script
 unfoldable pub spelling : Script → List ℕ
@@ -98,15 +126,25 @@ IsAction g Resync = Unit {0}
 abbrev pub IsCall : Script → Call → Type 0
 IsCall s call = (call.host < s.hosts) × IsAction s.geometry call.action
 
+-- a script is of version 1, which has one area, or of version 2
+abbrev pub IsVersion : ℕ → List Area → Type 0
+IsVersion version areas = ((version ≡ 1) × (length areas ≡ 1)) ⊎ (version ≡ 2)
+
+-- the most targets of an array
+abbrev pub most_targets : ℕ → ℕ
+most_targets version = if version == 2 then 32 else 16
+
 -- each number of a script is in the range of its line, and each call is one of these
 pub record IsRangedWith (OfCall : Script → Call → Type 0) (s : Script) : Type 0 where
+  pub version : IsVersion s.version s.geometry.areas
   pub geometry : IsArray s.geometry
-  pub least_buffer : s.geometry.unit ≤ s.buffer
+  pub targets : s.geometry.targets ≤ most_targets s.version
+  pub least_buffer : greatest_unit s.geometry ≤ s.buffer
   pub most_buffer : s.buffer ≤ 65536
   pub maxima : length s.maxima ≡ 3
   pub write_maximum : get_or s.maxima 0 0 ≤ 65535
-  pub regenerate_maximum : IsMaximum s.geometry.unit (get_or s.maxima 1 0)
-  pub rebuild_maximum : IsMaximum s.geometry.unit (get_or s.maxima 2 0)
+  pub regenerate_maximum : IsMaximum (greatest_unit s.geometry) (get_or s.maxima 1 0)
+  pub rebuild_maximum : IsMaximum (greatest_unit s.geometry) (get_or s.maxima 2 0)
   pub seed : s.seed < 2 ^ 32
   pub least_hosts : 1 ≤ s.hosts
   pub most_hosts : s.hosts ≤ 26
@@ -119,5 +157,5 @@ abbrev pub IsScript : Script → Type 0
 IsScript s = IsRangedWith IsCall s
 
 -- the bytes are this script's
-abbrev pub Spells : List ℕ → Script → Type 0
-Spells bytes s = (bytes ≡ spelling s) × IsScript s
+abbrev pub SpellsScript : List ℕ → Script → Type 0
+SpellsScript bytes s = (bytes ≡ spelling s) × IsScript s

@@ -3,10 +3,10 @@
 ghost use Rattle.std.specs.Prelude.{◌≡◌, ◌<◌, ◌==◌, ◌&&◌, nat_le, ◌*◌, ◌%◌, ◌≤◌, length};
 ghost use Rattle.host_scripts.specs.declared.script.Action.TheVariants as actions;
 ghost use Rattle.text_fields.specs.Reading.{Reads};
-ghost use Rattle.host_scripts.specs.Loose.{addressed_of, two_of, operation_at, read_of, write_of, fill_of, raw_of, target_of, on_target, operator_of, action_of};
+ghost use Rattle.host_scripts.specs.Loose.{operation_at, read_of, write_of, fill_of, raw_of, target_of, on_target, operator_of, action_of};
 ghost use Rattle.host_scripts.specs.Reading.{Gives, judged, is_ranged, is_sized};
 
-use crate::numbers::numeral;
+use crate::numbers::{addressed, numeral, two_numbers};
 use crate::script::{Action, Cause, ScriptFault, refused};
 use std::alloc::Global;
 use stripe_layout::Geometry;
@@ -20,25 +20,6 @@ pub enum Operation {
     Dropping,
     Replacing,
     Rebuilding,
-}
-
-/// A number, which is 2^32 where it is greater, a space and what stands behind it.
-#[tactic(auto, unfolding(crate::specs::Loose::addressed_of))]
-fn addressed(text: &[u8]) -> Option<(u64, &[u8])>
-    ensures { Reads (λ x. (x.0, x.1.now)) result (addressed_of text.now) }
-{
-    let (number, rest) = cut(text, b' ')?;
-    let number = numeral(number)?;
-    Some((number, rest))
-}
-
-#[tactic(auto, unfolding(crate::specs::Loose::two_of))]
-fn two_numbers(text: &[u8]) -> Option<(u64, u64)>
-    ensures { Reads (λ x. x) result (two_of text.now) }
-{
-    let (first, rest) = addressed(text)?;
-    let second = numeral(rest)?;
-    Some((first, second))
 }
 
 #[tactic(auto, unfolding(crate::specs::Loose::read_of))]

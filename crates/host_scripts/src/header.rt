@@ -1,111 +1,30 @@
-//! The ten lines that each script begins with.
+//! The lines that each script begins with.
 
-ghost use Rattle.std.specs.Prelude.{◌≤◌, ◌<◌, ◌+◌, ◌≡◌, [], ◌∷◌, IfOk, length, codes, ℕ};
+ghost use Rattle.std.specs.Prelude.{◌≤◌, ◌<◌, ◌+◌, ◌≡◌, [], ◌∷◌, IfOk, length};
 ghost use Rattle.text_fields.specs.Reading.{Reads};
-ghost use Rattle.host_scripts.specs.Loose.{number_of, three_of, maxima_of, mode_of, exact_of};
-ghost use Rattle.host_scripts.specs.Reading.{Gives, judged, any, within, next_at, line_at, number_at, are_maxima, is_maximum, geometry_at, targets_at, hosts_at, head_at};
+ghost use Rattle.stripe_layout.specs.Layout.{IsArray};
+ghost use Rattle.host_scripts.specs.Loose.{three_of, maxima_of, mode_of};
+ghost use Rattle.host_scripts.specs.Reading.{Gives, judged, any, line_at, are_maxima, is_maximum, targets_at, hosts_at, head_at, turns_line};
 ghost use Rattle.host_scripts.specs.Heads.{head_of};
 
 use crate::modes::mode_of;
-use crate::numbers::{number_behind, numeral};
+use crate::number_lines::{next_line, number_line, small_number_line};
+use crate::numbers::numeral;
 use crate::script::{Cause, ScriptFault, refused};
+use crate::shape::{buffer_line, shape_lines};
 use stripe_layout::{Geometry, Mode};
-use text_fields::{cut, is_text, strip};
+use text_fields::{cut, strip};
 
 /// What these lines say.
 #[derive(Clone, Copy)]
-pub struct Header {
+pub struct ScriptHeader {
+    pub version: u8,
     pub geometry: Geometry,
     pub buffer: u32,
     pub maxima: [u32; 3],
     pub mode: Mode,
     pub seed: u32,
     pub hosts: u8,
-}
-
-/// The text of the next line, and what stands after its end.
-#[tactic(auto, unfolding(crate::specs::Reading::next_at))]
-pub fn next_line(bytes: &[u8], line: u32) -> Result<(&[u8], &[u8]), ScriptFault>
-    ensures value { Gives (λ x. (x.0.now, x.1.now)) result (next_at line bytes.now) }
-    ensures shorter { IfOk result (λ x. length x.1.now < length bytes.now) }
-{
-    match cut(bytes, b'\n') {
-        Some(parts) => Ok(parts),
-        None => Err(refused(line, Cause::Form)),
-    }
-}
-
-/// A keyword and a number in range.
-fn number_text(
-    text: &[u8],
-    line: u32,
-    keyword: &[u8],
-    least: u32,
-    most: u32,
-) -> Result<u32, ScriptFault>
-    ensures value { Gives (λ n. n) result (judged line (within least most) any (number_of keyword.now text.now)) }
-    ensures range { IfOk result (λ n. (least ≤ n) × (n ≤ most)) }
-{
-    match number_behind(text, keyword) {
-        None => Err(refused(line, Cause::Form)),
-        Some(number) if u64::from(least) <= number && number <= u64::from(most) => {
-            Ok(number as u32)
-        }
-        Some(_) => Err(refused(line, Cause::Range)),
-    }
-}
-
-/// A line of a keyword and a number in range.
-#[tactic(auto, unfolding(crate::specs::Reading::number_at, crate::specs::Reading::line_at))]
-fn number_line<'a>(
-    bytes: &'a [u8],
-    line: u32,
-    keyword: &[u8],
-    least: u32,
-    most: u32,
-) -> Result<(u32, &'a [u8]), ScriptFault>
-    ensures value { Gives (λ x. (x.0, x.1.now)) result (number_at line keyword.now least most bytes.now) }
-    ensures range { IfOk result (λ x. (least ≤ x.0) × (x.0 ≤ most)) }
-    ensures shorter { IfOk result (λ x. length x.1.now < length bytes.now) }
-{
-    let (text, rest) = next_line(bytes, line)?;
-    let number = number_text(text, line, keyword, least, most)?;
-    Ok((number, rest))
-}
-
-/// The same of a number that a byte holds.
-fn small_number_line<'a>(
-    bytes: &'a [u8],
-    line: u32,
-    keyword: &[u8],
-    least: u8,
-    most: u8,
-) -> Result<(u8, &'a [u8]), ScriptFault>
-    ensures value { Gives (λ x. (x.0, x.1.now)) result (number_at line keyword.now least most bytes.now) }
-    ensures shorter { IfOk result (λ x. length x.1.now < length bytes.now) }
-{
-    let (number, rest) = number_line(bytes, line, keyword, u32::from(least), u32::from(most))?;
-    Ok((number as u8, rest))
-}
-
-/// The shape of the array.
-#[tactic(auto, unfolding(crate::specs::Reading::geometry_at))]
-fn geometry_lines(bytes: &[u8]) -> Result<(Geometry, &[u8]), ScriptFault>
-    ensures value { Gives (λ x. (x.0, x.1.now)) result (geometry_at bytes.now) }
-    ensures block { IfOk result (λ x. 1 ≤ x.0.block) }
-    ensures shorter { IfOk result (λ x. length x.1.now + 4 ≤ length bytes.now) }
-{
-    let (targets, rest) = small_number_line(bytes, 2, b"targets ", 3, 16)?;
-    let (block, rest) = number_line(rest, 3, b"block ", 1, 4096)?;
-    let (unit, rest) = number_line(rest, 4, b"unit ", 1, 4096)?;
-    let (stripes, rest) = number_line(rest, 5, b"stripes ", 1, 4096)?;
-    let geometry = Geometry {
-        targets,
-        block,
-        unit,
-        stripes,
-    };
-    Ok((geometry, rest))
 }
 
 /// Three numerals, each of which is 2^32 where it is greater.
@@ -151,76 +70,78 @@ fn ranged_maxima(unit: u32, line: u32, text: &[u8]) -> Result<[u32; 3], ScriptFa
 
 /// The three maxima of each target's first page.
 #[tactic(auto, unfolding(crate::specs::Reading::line_at))]
-fn maxima_line(unit: u32, bytes: &[u8]) -> Result<([u32; 3], &[u8]), ScriptFault>
-    ensures value { Gives (λ x. (x.0, x.1.now)) result (line_at 7 (are_maxima unit) any maxima_of bytes.now) }
+fn maxima_line(unit: u32, line: u32, bytes: &[u8]) -> Result<([u32; 3], &[u8]), ScriptFault>
+    ensures value { Gives (λ x. (x.0, x.1.now)) result (line_at line (are_maxima unit) any maxima_of bytes.now) }
     ensures shorter { IfOk result (λ x. length x.1.now < length bytes.now) }
 {
-    let (text, rest) = next_line(bytes, 7)?;
-    let maxima = ranged_maxima(unit, 7, text)?;
+    let (text, rest) = next_line(bytes, line)?;
+    let maxima = ranged_maxima(unit, line, text)?;
     Ok((maxima, rest))
 }
 
-/// What each target starts with: its buffer and its maxima.
+/// What each target starts with: its buffer and its maxima, on this line and the next.
 #[tactic(auto, unfolding(crate::specs::Reading::targets_at))]
-fn target_lines(unit: u32, bytes: &[u8]) -> Result<(u32, [u32; 3], &[u8]), ScriptFault>
-    ensures value { Gives (λ x. (x.0, x.1, x.2.now)) result (targets_at unit bytes.now) }
+fn target_lines(unit: u32, line: u32, bytes: &[u8]) -> Result<(u32, [u32; 3], &[u8]), ScriptFault>
+    requires { line ≤ 13 }
+    ensures value { Gives (λ x. (x.0, x.1, x.2.now)) result (targets_at unit line bytes.now) }
     ensures shorter { IfOk result (λ x. length x.2.now + 2 ≤ length bytes.now) }
 {
-    let (buffer, rest) = number_line(bytes, 6, b"buffer ", unit, 65536)?;
-    let (maxima, rest) = maxima_line(unit, rest)?;
+    let (buffer, rest) = number_line(bytes, line, b"buffer ", unit, 65536)?;
+    let (maxima, rest) = maxima_line(unit, line + 1, rest)?;
     Ok((buffer, maxima, rest))
 }
 
 /// Who moves the deltas.
 #[tactic(auto, unfolding(crate::specs::Reading::line_at))]
-fn mode_line(bytes: &[u8]) -> Result<(Mode, &[u8]), ScriptFault>
-    ensures value { Gives (λ x. (x.0, x.1.now)) result (line_at 8 any any mode_of bytes.now) }
+fn mode_line(line: u32, bytes: &[u8]) -> Result<(Mode, &[u8]), ScriptFault>
+    ensures value { Gives (λ x. (x.0, x.1.now)) result (line_at line any any mode_of bytes.now) }
     ensures shorter { IfOk result (λ x. length x.1.now < length bytes.now) }
 {
-    let (text, rest) = next_line(bytes, 8)?;
+    let (text, rest) = next_line(bytes, line)?;
     match mode_of(text) {
         Some(mode) => Ok((mode, rest)),
-        None => Err(refused(8, Cause::Form)),
+        None => Err(refused(line, Cause::Form)),
     }
 }
 
-/// How the hosts run: the mode, the seed and how many there are.
+/// How the hosts run: the mode, the seed and how many there are, on this line and the next two.
 #[tactic(auto, unfolding(crate::specs::Reading::hosts_at))]
-fn host_lines(bytes: &[u8]) -> Result<(Mode, u32, u8, &[u8]), ScriptFault>
-    ensures value { Gives (λ x. (x.0, x.1, x.2, x.3.now)) result (hosts_at bytes.now) }
+fn host_lines(line: u32, bytes: &[u8]) -> Result<(Mode, u32, u8, &[u8]), ScriptFault>
+    requires { line ≤ 15 }
+    ensures value { Gives (λ x. (x.0, x.1, x.2, x.3.now)) result (hosts_at line bytes.now) }
     ensures shorter { IfOk result (λ x. length x.3.now + 3 ≤ length bytes.now) }
 {
-    let (mode, rest) = mode_line(bytes)?;
-    let (seed, rest) = number_line(rest, 9, b"seed ", 0, u32::MAX)?;
-    let (hosts, rest) = small_number_line(rest, 10, b"hosts ", 1, 26)?;
+    let (mode, rest) = mode_line(line, bytes)?;
+    let (seed, rest) = number_line(rest, line + 1, b"seed ", 0, u32::MAX)?;
+    let (hosts, rest) = small_number_line(rest, line + 2, b"hosts ", 1, 26)?;
     Ok((mode, seed, hosts, rest))
 }
 
-#[tactic(auto, unfolding(crate::specs::Reading::line_at, crate::specs::Loose::exact_of))]
-fn version_line(bytes: &[u8]) -> Result<&[u8], ScriptFault>
-    ensures value { Gives (λ x. (1, x.now)) result (line_at {V = ℕ} 1 any any (exact_of (codes "xorscript 1") 1) bytes.now) }
-    ensures shorter { IfOk result (λ x. length x.now < length bytes.now) }
+/// The line behind the header, of the first turns or the first call, counted from 1.
+pub fn turns_line(header: &ScriptHeader) -> u32
+    ensures value { result ≡ turns_line (head_of header.now) }
+    ensures few { result ≤ 18 }
 {
-    let (text, rest) = next_line(bytes, 1)?;
-    if is_text(text, b"xorscript 1") {
-        Ok(rest)
-    } else {
-        Err(refused(1, Cause::Form))
-    }
+    buffer_line(header.version, &header.geometry.areas) + 5
 }
 
 /// All lines that a script begins with.
 #[tactic(auto, unfolding(crate::specs::Reading::head_at))]
-pub fn header_of(bytes: &[u8]) -> Result<(Header, &[u8]), ScriptFault>
+pub fn header_of(bytes: &[u8]) -> Result<(ScriptHeader, &[u8]), ScriptFault>
     ensures value { Gives (λ x. (head_of x.0, x.1.now)) result (head_at bytes.now) }
-    ensures block { IfOk result (λ x. 1 ≤ x.0.geometry.block) }
-    ensures shorter { IfOk result (λ x. length x.1.now + 10 ≤ length bytes.now) }
+    ensures array { IfOk result (λ x. IsArray x.0.geometry) }
+    ensures shorter { IfOk result (λ x. length x.1.now + turns_line (head_of x.0) ≤ length bytes.now + 1) }
 {
-    let rest = version_line(bytes)?;
-    let (geometry, rest) = geometry_lines(rest)?;
-    let (buffer, maxima, rest) = target_lines(geometry.unit, rest)?;
-    let (mode, seed, hosts, rest) = host_lines(rest)?;
-    let header = Header {
+    // A `match` for the borrow checker's sake, as in `shape_lines`.
+    let (version, geometry, rest) = match shape_lines(bytes) {
+        Ok(read) => read,
+        Err(fault) => return Err(fault),
+    };
+    let line = buffer_line(version, &geometry.areas);
+    let (buffer, maxima, rest) = target_lines(geometry.greatest_unit(), line, rest)?;
+    let (mode, seed, hosts, rest) = host_lines(line + 2, rest)?;
+    let header = ScriptHeader {
+        version,
         geometry,
         buffer,
         maxima,

@@ -7,10 +7,12 @@ mod header;
 mod limits;
 mod lines;
 mod modes;
+mod number_lines;
 mod numbers;
 mod parsing;
 mod printing;
 mod script;
+mod shape;
 
 pub use calls::Calls;
 pub use limits::over;

@@ -83,8 +83,7 @@ fn media(geometry: &Geometry) -> u64
     requires { IsArray geometry.now }
     ensures { result ≡ media_of geometry.now }
 {
-    let rows = u64::from(geometry.stripes) * u64::from(geometry.unit);
-    u64::from(geometry.targets) * rows * u64::from(geometry.block)
+    u64::from(geometry.targets) * u64::from(geometry.rows()) * u64::from(geometry.block)
 }
 
 /// Whether a call goes over all stripes.

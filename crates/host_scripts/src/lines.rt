@@ -8,7 +8,7 @@ ghost use Rattle.host_scripts.specs.Reading.{Gives, judged, any, is_ranged, is_s
 
 use crate::actions::action;
 use crate::calls::Calls;
-use crate::header::next_line;
+use crate::number_lines::next_line;
 use crate::script::{Action, Call, Cause, ScriptFault, refused};
 use blocks_core::{Bytes, Memory};
 use std::alloc::Global;
@@ -60,14 +60,14 @@ fn hosts_of(alloc: Global, letters: &[u8]) -> Result<Bytes, Memory>
 
 /// The hosts of the first turns, by their letters behind the keyword.
 #[tactic(auto, unfolding(crate::specs::Loose::letters_of))]
-fn turns(alloc: Global, hosts: u8, text: &[u8]) -> Result<Bytes, ScriptFault>
-    ensures { Gives (λ x. x) result (judged 11 (are_turns hosts) any (letters_of text.now)) }
+fn turns(alloc: Global, hosts: u8, line: u32, text: &[u8]) -> Result<Bytes, ScriptFault>
+    ensures { Gives (λ x. x) result (judged line (are_turns hosts) any (letters_of text.now)) }
 {
     if !are_letters(text) {
-        return Err(refused(11, Cause::Form));
+        return Err(refused(line, Cause::Form));
     }
     if !are_turns(hosts, text) {
-        return Err(refused(11, Cause::Range));
+        return Err(refused(line, Cause::Range));
     }
     let turns = hosts_of(alloc, text)?;
     Ok(turns)
@@ -75,35 +75,45 @@ fn turns(alloc: Global, hosts: u8, text: &[u8]) -> Result<Bytes, ScriptFault>
 
 /// The same behind the keyword.
 #[tactic(auto, unfolding(crate::specs::Loose::order_of))]
-fn order_turns(alloc: Global, hosts: u8, text: &[u8]) -> Result<Bytes, ScriptFault>
-    ensures { Gives (λ x. x) result (judged 11 (are_turns hosts) any (order_of text.now)) }
+fn order_turns(alloc: Global, hosts: u8, line: u32, text: &[u8]) -> Result<Bytes, ScriptFault>
+    ensures { Gives (λ x. x) result (judged line (are_turns hosts) any (order_of text.now)) }
 {
     match strip(text, b"order ") {
-        Some(letters) => turns(alloc, hosts, letters),
-        None => Err(refused(11, Cause::Form)),
+        Some(letters) => turns(alloc, hosts, line, letters),
+        None => Err(refused(line, Cause::Form)),
     }
 }
 
 /// The line of the first turns, and what stands after it.
 #[tactic(auto, unfolding(crate::specs::Reading::line_at))]
-fn given_order(alloc: Global, hosts: u8, bytes: &[u8]) -> Result<(Bytes, &[u8]), ScriptFault>
-    ensures value { Gives (λ x. (x.0, x.1.now)) result (line_at 11 (are_turns hosts) any order_of bytes.now) }
+fn given_order(
+    alloc: Global,
+    hosts: u8,
+    line: u32,
+    bytes: &[u8],
+) -> Result<(Bytes, &[u8]), ScriptFault>
+    ensures value { Gives (λ x. (x.0, x.1.now)) result (line_at line (are_turns hosts) any order_of bytes.now) }
     ensures shorter { IfOk result (λ x. length x.1.now < length bytes.now) }
 {
-    let (text, rest) = next_line(bytes, 11)?;
-    let turns = order_turns(alloc, hosts, text)?;
+    let (text, rest) = next_line(bytes, line)?;
+    let turns = order_turns(alloc, hosts, line, text)?;
     Ok((turns, rest))
 }
 
 /// The same where such a line stands there, and else no turns.
 #[tactic(auto, unfolding(crate::specs::Reading::order_at))]
-pub fn order_line(alloc: Global, hosts: u8, bytes: &[u8]) -> Result<(Bytes, &[u8]), ScriptFault>
-    ensures value { Gives (λ x. (x.0, x.1.now)) result (order_at hosts bytes.now) }
+pub fn order_line(
+    alloc: Global,
+    hosts: u8,
+    line: u32,
+    bytes: &[u8],
+) -> Result<(Bytes, &[u8]), ScriptFault>
+    ensures value { Gives (λ x. (x.0, x.1.now)) result (order_at hosts line bytes.now) }
     ensures shorter { IfOk result (λ x. length x.1.now ≤ length bytes.now) }
     ensures counted { IfOk result (λ x. 1 ≤ length x.0 → length x.1.now < length bytes.now) }
 {
     match strip(bytes, b"order ") {
-        Some(_) => given_order(alloc, hosts, bytes),
+        Some(_) => given_order(alloc, hosts, line, bytes),
         None => Ok((Bytes::new(alloc), bytes)),
     }
 }

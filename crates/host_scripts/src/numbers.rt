@@ -1,9 +1,9 @@
 //! Numbers of a script's lines, before their ranges are tested.
 
 ghost use Rattle.text_fields.specs.Reading.{Reads};
-ghost use Rattle.host_scripts.specs.Loose.{numeral_of, number_of};
+ghost use Rattle.host_scripts.specs.Loose.{numeral_of, number_of, addressed_of, two_of};
 
-use text_fields::{capped_number, strip};
+use text_fields::{capped_number, cut, strip};
 
 /// More than each number that a script may have: what is too great is out of range, and no fault of form.
 const CAP: u64 = 4_294_967_296;
@@ -22,4 +22,24 @@ pub fn number_behind(text: &[u8], keyword: &[u8]) -> Option<u64>
 {
     let text = strip(text, keyword)?;
     numeral(text)
+}
+
+/// A number, which is 2^32 where it is greater, a space and what stands behind it.
+#[tactic(auto, unfolding(crate::specs::Loose::addressed_of))]
+pub fn addressed(text: &[u8]) -> Option<(u64, &[u8])>
+    ensures { Reads (λ x. (x.0, x.1.now)) result (addressed_of text.now) }
+{
+    let (number, rest) = cut(text, b' ')?;
+    let number = numeral(number)?;
+    Some((number, rest))
+}
+
+/// Two numbers, each of which is 2^32 where it is greater.
+#[tactic(auto, unfolding(crate::specs::Loose::two_of))]
+pub fn two_numbers(text: &[u8]) -> Option<(u64, u64)>
+    ensures { Reads (λ x. x) result (two_of text.now) }
+{
+    let (first, rest) = addressed(text)?;
+    let second = numeral(rest)?;
+    Some((first, second))
 }

@@ -3,15 +3,15 @@
 
 ghost use Rattle.std.specs.Prelude.{◌≡◌, ◌<◌, ◌≤◌, ◌++◌, ◌∷◌, [], ℕ, All, OnOk, IfOk, codes, get_or, map, length};
 ghost use Rattle.std.specs.List.{flat_map};
-ghost use Rattle.host_scripts.specs.Printed.{shape_texts, start_texts};
 ghost use Rattle.text_fields.specs.Spelling.{line, numeral, hex, hex_or_dash};
-ghost use Rattle.host_scripts.specs.Scripts.{letter, maxima_text, mode_text, order_texts, action_text, call_text, spelling, IsScript, Spells};
+ghost use Rattle.host_scripts.specs.Scripts.{letter, maxima_text, mode_text, version_text, area_text, single_texts, several_texts, areas_texts, shape_texts, start_texts, order_texts, action_text, call_text, spelling, IsScript, SpellsScript};
 
 use crate::modes::mode_text;
 use crate::script::{Action, Call, Script};
+use crate::shape::WITH_AREAS;
 use blocks_core::{Bytes, Memory};
 use std::alloc::Global;
-use stripe_layout::{Geometry, Mode};
+use stripe_layout::{Area, Areas, Geometry, Mode};
 use text_fields::{push_data, push_hex};
 
 fn push_number(text: &mut Bytes, number: u32) -> Result<(), Memory>
@@ -131,21 +131,65 @@ fn push_order(text: &mut Bytes, hosts: &[u8]) -> Result<(), Memory>
     text.push(b'\n')
 }
 
-fn push_version(text: &mut Bytes) -> Result<(), Memory>
-    ensures { OnOk result (text.new ≡ text.old ++ line (codes "xorscript 1")) }
+fn push_version(text: &mut Bytes, version: u8) -> Result<(), Memory>
+    ensures { OnOk result (text.new ≡ text.old ++ line (version_text version)) }
 {
-    text.push_slice(b"xorscript 1\n")
+    if version == WITH_AREAS {
+        text.push_slice(b"xorscript 2\n")
+    } else {
+        text.push_slice(b"xorscript 1\n")
+    }
+}
+
+/// The one area of version 1.
+fn push_single(text: &mut Bytes, areas: &[Area]) -> Result<(), Memory>
+    ensures { OnOk result (text.new ≡ text.old ++ flat_map line (single_texts areas.now)) }
+{
+    match areas {
+        [] => Ok(()),
+        [area, ..] => {
+            push_number_line(text, b"unit ", area.unit)?;
+            push_number_line(text, b"stripes ", area.stripes)
+        }
+    }
+}
+
+fn push_area(text: &mut Bytes, area: &Area) -> Result<(), Memory>
+    ensures { OnOk result (text.new ≡ text.old ++ line (area_text area.now)) }
+{
+    push_two(text, b"area ", area.unit, area.stripes)?;
+    text.push(b'\n')
+}
+
+fn push_each_area(text: &mut Bytes, areas: &[Area]) -> Result<(), Memory>
+    ensures { OnOk result (text.new ≡ text.old ++ flat_map line (map area_text areas.now)) }
+{
+    for area in areas {
+        push_area(text, area)?;
+    }
+    Ok(())
+}
+
+/// The areas of either version.
+fn push_areas(text: &mut Bytes, version: u8, areas: &Areas) -> Result<(), Memory>
+    ensures { OnOk result (text.new ≡ text.old ++ flat_map line (areas_texts version areas.now)) }
+{
+    if version == WITH_AREAS {
+        push_number_line(text, b"areas ", u32::from(areas.len()))?;
+        push_each_area(text, areas.as_slice())
+    } else {
+        push_single(text, areas.as_slice())
+    }
 }
 
 /// The lines of the version and of the array's shape.
-fn push_shape(text: &mut Bytes, geometry: &Geometry) -> Result<(), Memory>
-    ensures { OnOk result (text.new ≡ text.old ++ flat_map line (shape_texts geometry.now)) }
+fn push_shape(text: &mut Bytes, version: u8, geometry: &Geometry) -> Result<(), Memory>
+    ensures { OnOk result (text.new ≡ text.old ++ flat_map line (shape_texts version geometry.now)) }
 {
-    push_version(text)?;
+    push_version(text, version)?;
     push_number_line(text, b"targets ", u32::from(geometry.targets))?;
     push_number_line(text, b"block ", geometry.block)?;
-    push_number_line(text, b"unit ", geometry.unit)?;
-    push_number_line(text, b"stripes ", geometry.stripes)
+    push_areas(text, version, &geometry.areas)
 }
 
 fn push_maxima(text: &mut Bytes, maxima: &[u32; 3]) -> Result<(), Memory>
@@ -179,10 +223,10 @@ fn push_starts(text: &mut Bytes, script: &Script) -> Result<(), Memory>
 pub fn print(alloc: Global, script: &Script) -> Result<Bytes, Memory>
     requires { IsScript script.now }
     ensures spelling { IfOk result (λ text. text ≡ spelling script.now) }
-    ensures again { IfOk result (λ text. Spells text script.now) }
+    ensures again { IfOk result (λ text. SpellsScript text script.now) }
 {
     let mut text = Bytes::new(alloc);
-    push_shape(&mut text, &script.geometry)?;
+    push_shape(&mut text, script.version, &script.geometry)?;
     push_starts(&mut text, script)?;
     push_order(&mut text, script.order.as_slice())?;
     push_calls(&mut text, script.calls.as_slice())?;

@@ -7,6 +7,8 @@ use stripe_layout::{Geometry, Mode};
 /// What an array is, and what its hosts ask of it.
 #[derive(Debug, Drop)]
 pub struct Script {
+    /// 1, which has one area, or 2.
+    pub version: u8,
     pub geometry: Geometry,
     /// Blocks that each target can hold as deltas.
     pub buffer: u32,
