@@ -1,0 +1,3 @@
+pub mod CdbTests
+pub mod AimTasks
+pub mod AimPieces

@@ -1,0 +1,7 @@
+pub mod Settings
+pub mod Requests
+pub mod Begins
+pub mod Cdbs
+pub mod Forms
+pub mod Pieces
+pub mod Tasks
