@@ -1,7 +1,8 @@
 //! Traces: a line for each entry.
 
-ghost use Rattle.std.specs.Prelude.{◌≡◌, ◌++◌, ◌∷◌, [], OnOk, IfOk, codes};
+ghost use Rattle.std.specs.Prelude.{◌≡◌, ◌++◌, ◌∷◌, [], OnOk, IfOk, IfSome, codes};
 ghost use Rattle.std.specs.Fmt.{decimal};
+ghost use Rattle.array_journal.specs.ActEvents.{act_in};
 ghost use Rattle.journal_text.specs.Traces.{field, flag_text, at_text, cause_text, names_text, owners_text, aim_text, place_text, act_text, event_text, entry_line, trace_of};
 
 mod fields;
@@ -10,28 +11,20 @@ use crate::printing::fields::{
     put_at, put_bytes, put_cause, put_flag, put_kind, put_names, put_number, put_owners, put_what,
     put_why,
 };
-use array_journal::{At, Entry, Event, Journal, Names, Task};
+use array_journal::{ActView, At, Entry, Event, Journal, Names, Task};
 use blocks_core::{Bytes, Memory, Owners};
-use sbc_cdbs::Cdb;
 use std::alloc::Global;
 use text_fields::push_number;
 
 /// What all acts of commands have: the command, its opening, the CDB, the first row and the bytes.
-fn put_act(
-    text: &mut Bytes,
-    command: u32,
-    opened: &At,
-    cdb: &Cdb,
-    row: u32,
-    bytes: &Bytes,
-) -> Result<(), Memory>
-    ensures { OnOk result (text.new ≡ text.old ++ act_text command opened.now cdb.now row bytes.now) }
+fn put_act(text: &mut Bytes, act: &ActView) -> Result<(), Memory>
+    ensures { OnOk result (text.new ≡ text.old ++ act_text act.now.command act.now.opened act.now.cdb.now act.now.row act.now.bytes.now) }
 {
-    put_number(text, u64::from(command))?;
-    put_at(text, opened)?;
-    put_bytes(text, cdb.as_slice())?;
-    put_number(text, u64::from(row))?;
-    put_bytes(text, bytes.as_slice())
+    put_number(text, u64::from(act.command))?;
+    put_at(text, &act.opened)?;
+    put_bytes(text, act.cdb.as_slice())?;
+    put_number(text, u64::from(act.row))?;
+    put_bytes(text, act.bytes)
 }
 
 /// The command of a task, and what it does.
@@ -115,19 +108,17 @@ fn put_discarded(text: &mut Bytes, call: u32, commands: &Owners) -> Result<(), M
 }
 
 /// The name of an act of a command, and what all acts have.
-fn push_act(
-    text: &mut Bytes,
-    name: &[u8],
-    command: u32,
-    opened: &At,
-    cdb: &Cdb,
-    row: u32,
-    bytes: &Bytes,
-) -> Result<(), Memory>
-    ensures { OnOk result (text.new ≡ text.old ++ (name.now ++ act_text command opened.now cdb.now row bytes.now)) }
+fn push_act(text: &mut Bytes, name: &[u8], event: &Event) -> Result<(), Memory>
+    ensures { OnOk result (IfSome (act_in event.now) (λ a.
+        text.new ≡ text.old ++ (name.now ++ act_text a.command a.opened a.cdb a.row a.bytes))) }
 {
-    text.push_slice(name)?;
-    put_act(text, command, opened, cdb, row, bytes)
+    match event.act() {
+        Some(act) => {
+            text.push_slice(name)?;
+            put_act(text, &act)
+        }
+        None => Ok(()),
+    }
 }
 
 /// The name of an event, and two fields of numbers.
@@ -153,68 +144,34 @@ fn push_event(text: &mut Bytes, event: &Event) -> Result<(), Memory>
     ensures { OnOk result (text.new ≡ text.old ++ event_text event.now) }
 {
     match event {
-        Event::Fetch {
-            command,
-            opened,
-            cdb,
-            row,
-            bytes,
-        } => { push_act(text, b"fetch", *command, opened, cdb, *row, bytes) }
-        Event::Put {
-            command,
-            opened,
-            cdb,
-            row,
-            bytes,
-            names,
-        } => {
-            push_act(text, b"put", *command, opened, cdb, *row, bytes)?;
+        Event::Fetch { .. } => push_act(text, b"fetch", event),
+        Event::Put { names, .. } => {
+            push_act(text, b"put", event)?;
             put_names(text, names.as_slice())
         }
         Event::Diff {
-            command,
-            opened,
-            cdb,
-            row,
-            bytes,
             sent,
             dropped,
             back,
+            ..
         } => {
-            push_act(text, b"diff", *command, opened, cdb, *row, bytes)?;
+            push_act(text, b"diff", event)?;
             put_flag(text, *sent)?;
             put_flag(text, *dropped)?;
             put_flag(text, *back)
         }
-        Event::Take {
-            command,
-            opened,
-            cdb,
-            row,
-            bytes,
-        } => { push_act(text, b"take", *command, opened, cdb, *row, bytes) }
-        Event::Fold {
-            command,
-            opened,
-            cdb,
-            row,
-            bytes,
-            names,
-        } => {
-            push_act(text, b"fold", *command, opened, cdb, *row, bytes)?;
+        Event::Take { .. } => push_act(text, b"take", event),
+        Event::Fold { names, .. } => {
+            push_act(text, b"fold", event)?;
             put_names(text, names.as_slice())
         }
         Event::Hold {
-            command,
-            opened,
-            cdb,
-            row,
-            bytes,
             kept,
             names,
             back,
+            ..
         } => {
-            push_act(text, b"hold", *command, opened, cdb, *row, bytes)?;
+            push_act(text, b"hold", event)?;
             put_flag(text, *kept)?;
             put_names(text, names.as_slice())?;
             put_flag(text, *back)

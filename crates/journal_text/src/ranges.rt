@@ -2,14 +2,15 @@
 //! function here does anything: that it reads a field, or goes through a list, tells the prover the range
 //! of a type.
 
-ghost use Rattle.std.specs.Prelude.{◌≡◌, ◌<◌, ◌^◌, length};
+ghost use Rattle.std.specs.Prelude.{◌≡◌, ◌<◌, ◌^◌, IfSome, length};
 ghost use Rattle.std.specs.List.{AllByRecursion};
+ghost use Rattle.array_journal.specs.ActEvents.{act_in};
 ghost use Rattle.array_journal.specs.Merge.{Rises};
 ghost use Rattle.text_fields.specs.Spelling.{AreBytes};
 ghost use Rattle.journal_text.specs.Readable.{AreOwners, AreNames, IsAt, IsCause, IsCdb, IsAct, IsAim, IsPlace, IsSense, IsWhy, IsEvent, IsEntry, IsTraced};
 ghost use Rattle.journal_text.specs.Told.{IsToldWhy, IsToldSense, IsTold, IsToldEntry};
 
-use array_journal::{At, Entry, Event, Journal, Task, Why};
+use array_journal::{ActView, At, Entry, Event, Journal, Task, Why};
 use blocks_core::Bytes;
 use sbc_cdbs::Cdb;
 use sense_data::{Pointer, Sense};
@@ -81,12 +82,22 @@ fn place_in_range(task: &Task)
     bytes_in_range(&task.bytes);
 }
 
-fn act_in_range(command: u32, opened: &At, cdb: &Cdb, row: u32, bytes: &Bytes)
-    ensures { IsAct command opened.now cdb.now row bytes.now }
+fn view_in_range(view: &ActView)
+    ensures { IsAct view.now.command view.now.opened view.now.cdb.now view.now.row view.now.bytes.now }
 {
-    at_in_range(opened);
-    cdb_in_range(cdb);
-    bytes_in_range(bytes);
+    let _command = view.command;
+    let _row = view.row;
+    at_in_range(&view.opened);
+    cdb_in_range(view.cdb);
+    slice_in_range(view.bytes);
+}
+
+fn act_in_range(event: &Event)
+    ensures { IfSome (act_in event.now) (λ a. IsAct a.command a.opened a.cdb a.row a.bytes) }
+{
+    if let Some(view) = event.act() {
+        view_in_range(&view);
+    }
 }
 
 fn pointer_in_range(pointer: &Pointer)
@@ -122,63 +133,9 @@ fn event_in_range(event: &Event)
     ensures { IsEvent event.now }
 {
     match event {
-        Event::Fetch {
-            command,
-            opened,
-            cdb,
-            row,
-            bytes,
-        } => act_in_range(*command, opened, cdb, *row, bytes),
-        Event::Put {
-            command,
-            opened,
-            cdb,
-            row,
-            bytes,
-            names,
-        } => {
-            act_in_range(*command, opened, cdb, *row, bytes);
-            names_in_range(names.as_slice())
-        }
-        Event::Diff {
-            command,
-            opened,
-            cdb,
-            row,
-            bytes,
-            sent: _,
-            dropped: _,
-            back: _,
-        } => act_in_range(*command, opened, cdb, *row, bytes),
-        Event::Take {
-            command,
-            opened,
-            cdb,
-            row,
-            bytes,
-        } => act_in_range(*command, opened, cdb, *row, bytes),
-        Event::Fold {
-            command,
-            opened,
-            cdb,
-            row,
-            bytes,
-            names,
-        } => {
-            act_in_range(*command, opened, cdb, *row, bytes);
-            names_in_range(names.as_slice())
-        }
-        Event::Hold {
-            command,
-            opened,
-            cdb,
-            row,
-            bytes,
-            kept: _,
-            names,
-            back: _,
-        } => {
-            act_in_range(*command, opened, cdb, *row, bytes);
+        Event::Fetch { .. } | Event::Diff { .. } | Event::Take { .. } => act_in_range(event),
+        Event::Put { names, .. } | Event::Fold { names, .. } | Event::Hold { names, .. } => {
+            act_in_range(event);
             names_in_range(names.as_slice())
         }
         Event::Shut {

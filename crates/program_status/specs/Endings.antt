@@ -3,8 +3,8 @@ use Rattle.std.specs.Prelude.{ℕ, ◌≡◌, ◌⊎◌, ◌+◌, List, drop, Op
 use Rattle.std.specs.Io.KnownBytes.{Appends}
 use Rattle.outer_io.specs.Outside.{HasRisen, AppendsPrefix, input_limit}
 use Rattle.program_status.specs.declared.status.Verdict.{Verdict}
-use Rattle.program_status.specs.declared.stops.Stop.{Stop}
-use Rattle.program_status.specs.declared.stops.Stop.TheVariants.{Usage, ReadFault, Found, Memory}
+use Rattle.program_status.specs.declared.stops.ProgramStop.{ProgramStop}
+use Rattle.program_status.specs.declared.stops.ProgramStop.TheVariants.{Usage, ReadFault, Found, Memory}
 use Rattle.program_status.specs.Statuses.{code_of}
 use Rattle.program_status.specs.Stops.{status_of, note_of}
 
@@ -17,7 +17,7 @@ IsHanded code text old new before after status =
     ((status ≡ code) × Appends old new text) ⊎ ((status ≡ 4) × HasRisen before after × AppendsPrefix old new text)
 
 -- the same of the line that says why a program was stopped
-abbrev pub IsNoted : {F : Type 0} → (F → Verdict) → Stop F → Option (List ℕ) → Option (List ℕ) → ℕ → ℕ → ℕ → Type 0
+abbrev pub IsNoted : {F : Type 0} → (F → Verdict) → ProgramStop F → Option (List ℕ) → Option (List ℕ) → ℕ → ℕ → ℕ → Type 0
 IsNoted verdict stop old new before after status = IsHanded (code_of (status_of verdict stop)) (note_of stop) old new before after status
 
 -- a sink has gained a text that is as it should be, or a beginning of one
@@ -45,21 +45,21 @@ pub record HasCause (NoCommand Command Reading : Type 0) (before after : Counts)
   pub usage : status ≡ 64 → NoCommand
 
 -- what stops a part of the work, where no word is looked at and nothing is read: a finding of which this is so, with its line
-abbrev pub StopsBy : {F : Type 0} → (F → List ℕ) → (F → Type 0) → Stop F → Type 0
+abbrev pub StopsBy : {F : Type 0} → (F → List ℕ) → (F → Type 0) → ProgramStop F → Type 0
 StopsBy line Is Usage = ⊥
 StopsBy line Is ReadFault = ⊥
 StopsBy line Is (Found finding note) = Is finding × (note ≡ line finding)
 StopsBy line Is Memory = Unit {0}
 
 -- the same where the source is read: also a read fault, of which the count of the source's faults tells
-abbrev pub StopsReading : {F : Type 0} → (F → List ℕ) → (F → Type 0) → ℕ → ℕ → Stop F → Type 0
+abbrev pub StopsReading : {F : Type 0} → (F → List ℕ) → (F → Type 0) → ℕ → ℕ → ProgramStop F → Type 0
 StopsReading line Is before after Usage = ⊥
 StopsReading line Is before after ReadFault = HasRisen before after
 StopsReading line Is before after (Found finding note) = Is finding × (note ≡ line finding)
 StopsReading line Is before after Memory = Unit {0}
 
 -- the same of a whole program, whose words are no command, a command, or one for which the source is read
-abbrev pub StopsProgram : {F : Type 0} → (NoCommand Command Reading : Type 0) → (F → List ℕ) → (F → Type 0) → ℕ → ℕ → Stop F → Type 0
+abbrev pub StopsProgram : {F : Type 0} → (NoCommand Command Reading : Type 0) → (F → List ℕ) → (F → Type 0) → ℕ → ℕ → ProgramStop F → Type 0
 StopsProgram NoCommand Command Reading line Is before after Usage = NoCommand
 StopsProgram NoCommand Command Reading line Is before after ReadFault = Reading × HasRisen before after
 StopsProgram NoCommand Command Reading line Is before after (Found finding note) = Is finding × (note ≡ line finding)
@@ -68,7 +68,7 @@ StopsProgram NoCommand Command Reading line Is before after Memory = Command
 -- ---- what is taken of the source
 
 -- what is said of a stop that comes once the input is read
-abbrev pub AfterReading : {F : Type 0} → Type 0 → Stop F → Type 0
+abbrev pub AfterReading : {F : Type 0} → Type 0 → ProgramStop F → Type 0
 AfterReading Said Usage = Unit {0}
 AfterReading Said ReadFault = Unit {0}
 AfterReading Said (Found finding note) = Said

@@ -6,10 +6,10 @@ use Rattle.outer_io.specs.declared.input.InputFault.TheVariants as faults
 use Rattle.program_status.specs.declared.status.Status.{Status}
 use Rattle.program_status.specs.declared.status.Status.TheVariants as statuses
 use Rattle.program_status.specs.declared.status.Verdict.{Verdict}
-use Rattle.program_status.specs.declared.stops.Stop.{Stop}
-use Rattle.program_status.specs.declared.stops.Stop.TheVariants.{Usage, ReadFault, Found, Memory}
+use Rattle.program_status.specs.declared.stops.ProgramStop.{ProgramStop}
+use Rattle.program_status.specs.declared.stops.ProgramStop.TheVariants.{Usage, ReadFault, Found, Memory}
 
-abbrev pub status_of : {F : Type 0} → (F → Verdict) → Stop F → Status
+abbrev pub status_of : {F : Type 0} → (F → Verdict) → ProgramStop F → Status
 status_of verdict Usage = statuses.Usage
 status_of verdict ReadFault = statuses.ReadFault
 status_of verdict (Found finding note) = statuses.Found (verdict finding)
@@ -25,7 +25,7 @@ read_fault_line = line (codes "read fault")
 abbrev pub no_memory_line : List ℕ
 no_memory_line = line (codes "no memory")
 
-abbrev pub note_of : {F : Type 0} → Stop F → List ℕ
+abbrev pub note_of : {F : Type 0} → ProgramStop F → List ℕ
 note_of Usage = usage_line
 note_of ReadFault = read_fault_line
 note_of (Found finding note) = note
@@ -40,10 +40,10 @@ noted_for status =
     else []
 
 -- what a fault of the input stops a program with
-abbrev pub stop_of : {F : Type 0} → InputFault → Stop F
+abbrev pub stop_of : {F : Type 0} → InputFault → ProgramStop F
 stop_of faults.Failed = ReadFault
 stop_of faults.Memory = Memory
 
 -- want of memory, or this finding with its line
-abbrev pub IsStopOf : {F : Type 0} → (F → List ℕ) → F → Stop F → Type 0
+abbrev pub IsStopOf : {F : Type 0} → (F → List ℕ) → F → ProgramStop F → Type 0
 IsStopOf line finding stop = (stop ≡ Found finding (line finding)) ⊎ (stop ≡ Memory)

@@ -4,7 +4,7 @@ ghost use Rattle.program_status.specs.Statuses.{code_of};
 ghost use Rattle.program_status.specs.Endings.{IsHanded, IsNoted};
 
 use crate::status::Status;
-use crate::stops::{Finding, Stop};
+use crate::stops::{Finding, ProgramStop};
 use outer_io::{Sink, write_all};
 
 /// Writes all of a text, and says with which status the process ends: with this one, unless that fails.
@@ -25,7 +25,7 @@ pub fn hand_out<K: Sink>(out: &mut K, text: &[u8]) -> u8
 }
 
 /// Writes why there is nothing to write.
-pub fn hand_note<F: Finding, N: Sink>(notes: &mut N, stop: &Stop<F>) -> u8
+pub fn hand_note<F: Finding, N: Sink>(notes: &mut N, stop: &ProgramStop<F>) -> u8
     ensures { IsNoted F.verdict stop.now (N.written notes.old) (N.written notes.new) (N.faults notes.old) (N.faults notes.new) result }
 {
     hand(notes, stop.note(), stop.status())

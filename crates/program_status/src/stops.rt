@@ -26,7 +26,7 @@ pub trait Finding: Copy {
 
 /// What stops a program before it has anything to write.
 #[derive(Debug, Drop)]
-pub enum Stop<F> {
+pub enum ProgramStop<F> {
     /// Its words ask for nothing that it does.
     Usage,
     /// A read failed.
@@ -39,64 +39,64 @@ pub enum Stop<F> {
 
 /// What a finding stops a program with. Its line is made at once, so that no memory is wanted when it is
 /// handed out.
-pub fn found<F: Finding>(alloc: Global, finding: F) -> Stop<F>
+pub fn found<F: Finding>(alloc: Global, finding: F) -> ProgramStop<F>
     ensures { IsStopOf F.line finding result }
 {
     match finding.line(alloc) {
-        Ok(note) => Stop::Found { finding, note },
-        Err(_) => Stop::Memory,
+        Ok(note) => ProgramStop::Found { finding, note },
+        Err(_) => ProgramStop::Memory,
     }
 }
 
-impl<F: Finding> Stop<F> {
+impl<F: Finding> ProgramStop<F> {
     /// How the program ends.
     pub fn status(&self) -> Status
         ensures { result ≡ status_of F.verdict self.now }
     {
         match self {
-            Stop::Usage => Status::Usage,
-            Stop::ReadFault => Status::ReadFault,
-            Stop::Found { finding, .. } => Status::Found(finding.verdict()),
-            Stop::Memory => Status::NoMemory,
+            ProgramStop::Usage => Status::Usage,
+            ProgramStop::ReadFault => Status::ReadFault,
+            ProgramStop::Found { finding, .. } => Status::Found(finding.verdict()),
+            ProgramStop::Memory => Status::NoMemory,
         }
     }
 }
 
-impl<F> Stop<F> {
+impl<F> ProgramStop<F> {
     /// The line that goes to notes.
     pub fn note(&self) -> &[u8]
         ensures { result.now ≡ note_of self.now }
     {
         match self {
-            Stop::Usage => b"usage\n",
-            Stop::ReadFault => b"read fault\n",
-            Stop::Found { note, .. } => note.as_slice(),
-            Stop::Memory => b"no memory\n",
+            ProgramStop::Usage => b"usage\n",
+            ProgramStop::ReadFault => b"read fault\n",
+            ProgramStop::Found { note, .. } => note.as_slice(),
+            ProgramStop::Memory => b"no memory\n",
         }
     }
 }
 
-impl<F> From<Memory> for Stop<F> {
+impl<F> From<Memory> for ProgramStop<F> {
     ghost use Rattle.std.specs.Prelude.{◌≡◌};
-    ghost use Rattle.program_status.specs.declared.stops.Stop.TheVariants as stops;
+    ghost use Rattle.program_status.specs.declared.stops.ProgramStop.TheVariants as stops;
 
     ghost from_gives = { λ _ stop. stop ≡ stops.Memory };
 
-    fn from(_error: Memory) -> Stop<F> {
-        Stop::Memory
+    fn from(_error: Memory) -> ProgramStop<F> {
+        ProgramStop::Memory
     }
 }
 
-impl<F> From<InputFault> for Stop<F> {
+impl<F> From<InputFault> for ProgramStop<F> {
     ghost use Rattle.std.specs.Prelude.{◌≡◌};
     ghost use Rattle.program_status.specs.Stops.{stop_of};
 
     ghost from_gives = { λ fault stop. stop ≡ stop_of fault };
 
-    fn from(fault: InputFault) -> Stop<F> {
+    fn from(fault: InputFault) -> ProgramStop<F> {
         match fault {
-            InputFault::Failed => Stop::ReadFault,
-            InputFault::Memory => Stop::Memory,
+            InputFault::Failed => ProgramStop::ReadFault,
+            InputFault::Memory => ProgramStop::Memory,
         }
     }
 }

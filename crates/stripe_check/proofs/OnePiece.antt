@@ -7,8 +7,11 @@ use Rattle.stripe_layout.specs.Layout.{capacity_of}
 use Rattle.blocks_core.specs.Lists.{slice}
 use Rattle.host_scripts.specs.declared.script.Script.{Script}
 use Rattle.stripe_check.specs.Asked.{goes_through}
-use Rattle.stripe_check.specs.Cuts.{Span, most_blocks, first_count, cut, pieces_of}
-use Rattle.stripe_check.specs.Jobs.{Moves, moved, reading, writing}
+use Rattle.host_requests.specs.Settings.{most_blocks}
+use Rattle.stripe_layout.specs.declared.pieces.Piece.{Piece}
+use Rattle.stripe_layout.specs.Layout.{room_in_unit}
+use Rattle.stripe_layout.specs.Pieces.{piece_of, first_count, cut, pieces_of}
+use Rattle.host_requests.specs.Requests.{Moves, moved, reading, writing}
 use Rattle.stripe_check.specs.Steps.{Begins, Ends, Done}
 
 cut-none : (g : Geometry) (most left lba : ℕ) → cut g most left lba 0 ≡ []
@@ -16,13 +19,14 @@ cut-none g most zero lba = refl
 cut-none g most (suc left) lba = refl
 
 -- blocks that stand in one unit, and are no more than a command may have, are one piece
-pub pieces-one : (script : Script) (lba count : ℕ) → 1 ≤ count → count ≤ most_blocks script → lba % script.geometry.unit + count ≤ script.geometry.unit →
-    pieces_of script lba count ≡ record { lba = lba; count = count } ∷ []
+pub pieces-one : (script : Script) (lba count : ℕ) → 1 ≤ count → count ≤ most_blocks script →
+    count ≤ room_in_unit script.geometry lba →
+    pieces_of script.geometry (most_blocks script) lba count ≡ piece_of script.geometry lba count ∷ []
 pieces-one script lba zero some fits within = let no : ⊥ = omega arith in absurd no
 pieces-one script lba (suc others) some fits within =
-    let whole : first_count script.geometry (most_blocks script) lba (suc others) ≡ suc others = min-min (script.geometry.unit - lba % script.geometry.unit) (most_blocks script) (suc others) (omega arith) fits in
+    let whole : first_count script.geometry (most_blocks script) lba (suc others) ≡ suc others = min-min (room_in_unit script.geometry lba) (most_blocks script) (suc others) within fits in
     rw whole
-    (ap (λ (xs : List Span). record { lba = lba; count = suc others } ∷ xs)
+    (ap (λ (xs : List Piece). piece_of script.geometry lba (suc others) ∷ xs)
     (ap (λ n. cut script.geometry (most_blocks script) others (lba + suc others) n) (omega arith) ∙ cut-none script.geometry (most_blocks script) others (lba + suc others)))
   where
     min-min : (a b n : ℕ) → n ≤ a → n ≤ b → min a (min b n) ≡ n

@@ -3,6 +3,7 @@ use Rattle.std.proofs.Common.{◌≡◌, ◌≢◌, ℕ, zero, suc, ◌+◌, ◌
 use Rattle.std.specs.Option.{option_map}
 use Rattle.std.proofs.lemmas.Bool.{cases_eq, eq-eqb, ne_eqb}
 use Rattle.std.proofs.lemmas.Bool.Decides.{nat_tests}
+use Rattle.stripe_layout.specs.Layout.{stripes_of}
 use Rattle.array_journal.specs.declared.entry.Entry.{Entry}
 use Rattle.array_journal.specs.declared.setting.Setting.{Setting}
 use Rattle.array_journal.specs.declared.task.Task.{Task}
@@ -64,7 +65,7 @@ remade s whole past e lost made row i stripe place at lt old here quiet rebuilt 
     at-stripe : (str : ℕ) → stripe ≡ str → str < length row → nat_lt (get_or (set row stripe place) str 0) (get_or lost i 0) ≡ false
     at-stripe str z lt2 = rw (z, get_or-set_same row str place 0 lt2) not-before
 
-    absent-here : (str : ℕ) → i < s.geometry.targets → str < s.geometry.stripes →
+    absent-here : (str : ℕ) → i < s.geometry.targets → str < stripes_of s.geometry →
         nat_lt (get_or (set row stripe place) str 0) (get_or lost i 0) ≡ cond (puts_rebuilt whole i str e.event) false (absent_in whole i str past)
     absent-here str h k = ⊎_elim
         (λ z. rw (rebuilt str, eq-eqb stripe str z) (at-stripe str z (rw old (let u = was.units i h in omega arith))))

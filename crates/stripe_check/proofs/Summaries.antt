@@ -17,7 +17,8 @@ use Rattle.array_journal.specs.Media.{media}
 use Rattle.host_scripts.specs.declared.script.Call.{Call}
 use Rattle.host_scripts.specs.declared.script.Script.{Script}
 use Rattle.std.proofs.lemmas.List.{length-reverse}
-use Rattle.stripe_check.specs.declared.command_summary.Command.{Command}
+use Rattle.stripe_layout.specs.Layout.{stripes_of, first_row}
+use Rattle.stripe_check.specs.declared.command_summary.CommandSummary.{CommandSummary}
 use Rattle.stripe_check.specs.declared.command_summary.Tally.{Tally}
 use Rattle.stripe_check.specs.declared.check.Failure.{Failure}
 use Rattle.stripe_check.specs.declared.absent_units.Losses.{Losses}
@@ -27,14 +28,15 @@ use Rattle.stripe_check.specs.Folds.{AreMedia, AreCommands, AreListed, AreReads,
 use Rattle.stripe_check.specs.Found.{any_lost, sums_to_zero, is_whole, dirty_briefly, listed_line, counts_line, entries_text, summary_found, replies_found}
 use Rattle.stripe_check.specs.AbsentUnits.{AreLosses}
 use Rattle.stripe_check.specs.Replies.{reply_lines, answer_line, bytes_read, failure_of}
-use Rattle.stripe_check.specs.Reports.{setting_of, dirty_line, dirty_text, absent_text, summary_in, summary_of, report_of}
+use Rattle.host_requests.specs.Settings.{setting_of}
+use Rattle.stripe_check.specs.Reports.{dirty_line, dirty_text, absent_text, summary_in, summary_of, report_of}
 use Rattle.stripe_check.specs.Tallies.{untold, tally_of}
 use Rattle.stripe_check.specs.Sums.{unit_bytes, unit_on, sum_of, has_absent, is_balanced, parts_on}
 use Rattle.stripe_check.proofs.Counting.{same-filter, same-any, same-flat_map}
 
 -- ---- units
 
-any-is : (s : Setting) (past : List Entry) (lost : List ℕ) (made : List (List ℕ)) → AreLosses s past past lost made → (k : ℕ) → k < s.geometry.stripes →
+any-is : (s : Setting) (past : List Entry) (lost : List ℕ) (made : List (List ℕ)) → AreLosses s past past lost made → (k : ℕ) → k < stripes_of s.geometry →
     any_lost lost made s.geometry.targets k ≡ has_absent s past k
 any-is s past lost made losses k lt = same-any _ _ 0 s.geometry.targets (λ i h. losses.absent i k (omega arith) lt)
 
@@ -47,15 +49,15 @@ parts-from (m ∷ kept) h a at len each =
     rw (first, rest) refl
 
 pub sum-is : (s : Setting) (past : List Entry) (kept : List (List ℕ)) → AreMedia s past kept → (k : ℕ) →
-    xor_all (unit_bytes s.geometry) (parts_on (k * s.geometry.unit * s.geometry.block) (unit_bytes s.geometry) kept) ≡ sum_of s past k
+    xor_all (unit_bytes s.geometry k) (parts_on (first_row s.geometry k * s.geometry.block) (unit_bytes s.geometry k) kept) ≡ sum_of s past k
 sum-is s past kept are k =
     let count = are.count in
-    let parts = parts-from kept (λ i. media s i past) 0 (k * s.geometry.unit * s.geometry.block) (unit_bytes s.geometry)
+    let parts = parts-from kept (λ i. media s i past) 0 (first_row s.geometry k * s.geometry.block) (unit_bytes s.geometry k)
     (λ i lt. are.each i (omega arith) ∙ ap (λ n. media s n past) (omega arith)) in
-    ap (λ ms. xor_all (unit_bytes s.geometry) ms) (parts ∙ ap (λ n. map (unit_on s past k) (numbers 0 n)) count)
+    ap (λ ms. xor_all (unit_bytes s.geometry k) ms) (parts ∙ ap (λ n. map (unit_on s past k) (numbers 0 n)) count)
 
 whole-is : (s : Setting) (past : List Entry) (kept : List (List ℕ)) (lost : List ℕ) (made : List (List ℕ)) → AreMedia s past kept → AreLosses s past past lost made →
-    (k : ℕ) → k < s.geometry.stripes → is_whole s.geometry kept lost made k ≡ is_balanced s past k
+    (k : ℕ) → k < stripes_of s.geometry → is_whole s.geometry kept lost made k ≡ is_balanced s past k
 whole-is s past kept lost made are losses k lt =
     ap (λ b. not b && sums_to_zero s.geometry kept k) (any-is s past lost made losses k lt)
     ∙ ap (λ bytes. not (has_absent s past k) && is_zero bytes) (sum-is s past kept are k)
@@ -77,7 +79,7 @@ count-from past listed each a (suc n) = by (listed_for a past) refl (count-from 
     by None here rest = rw (each a, here) rest
     by (Some c) here rest = rw (each a, here) (ap suc rest)
 
-lines-from : (past : List Entry) (kept : List Command) → AreCommands past kept → (listed : List (ℕ × ℕ)) → ((k : ℕ) → command_of k listed ≡ listed_for k past) → (a n : ℕ) →
+lines-from : (past : List Entry) (kept : List CommandSummary) → AreCommands past kept → (listed : List (ℕ × ℕ)) → ((k : ℕ) → command_of k listed ≡ listed_for k past) → (a n : ℕ) →
     flat_map (λ stripe. listed_line kept stripe (command_of stripe listed)) (numbers a n)
     ≡ flat_map (dirty_line past) (filter_map (λ stripe. dirty_stripe stripe (listed_for stripe past)) (numbers a n))
 lines-from past kept are listed each a zero = refl
@@ -90,7 +92,7 @@ lines-from past kept are listed each a (suc n) = by (listed_for a past) refl (li
         ≡ flat_map (dirty_line past) (filter_map (λ stripe. dirty_stripe stripe (listed_for stripe past)) (numbers a (suc n)))
     by None here rest = rw (each a, here) rest
     by (Some c) here rest =
-        let line : dirty_briefly a (get_or kept c unknown).brief ≡ dirty_text a (task_of c past) = ap (λ (k : Command). dirty_briefly a k.brief) (are.each c) ∙ dirty-is a (task_of c past) in
+        let line : dirty_briefly a (get_or kept c unknown).brief ≡ dirty_text a (task_of c past) = ap (λ (k : CommandSummary). dirty_briefly a k.brief) (are.each c) ∙ dirty-is a (task_of c past) in
         rw (each a, here)
         (ap (λ xs. xs ++ flat_map (λ stripe. listed_line kept stripe (command_of stripe listed)) (numbers (suc a) n)) line ∙ ap (λ xs. dirty_text a (task_of c past) ++ xs) rest)
 
@@ -105,17 +107,17 @@ assembled count stripes z z' l l' a a' d d' u u' p q r t v =
     ∙ ap (λ xs. entries_text count ++ (counts_line stripes z' l' a' ++ (xs ++ u))) t
     ∙ ap (λ xs. entries_text count ++ (counts_line stripes z' l' a' ++ (d' ++ xs))) v
 
-pub summary-is : (s : Setting) (past : List Entry) (kept : List (List ℕ)) (commands : List Command) (listed : List (ℕ × ℕ)) (lost : List ℕ) (made : List (List ℕ)) →
+pub summary-is : (s : Setting) (past : List Entry) (kept : List (List ℕ)) (commands : List CommandSummary) (listed : List (ℕ × ℕ)) (lost : List ℕ) (made : List (List ℕ)) →
     AreMedia s past kept → AreCommands past commands → AreListed past listed → AreLosses s past past lost made →
     summary_found s.geometry (length past) kept commands listed lost made ≡ summary_in s past
 summary-is s past kept commands listed lost made are known dirt losses =
-    assembled (length past) s.geometry.stripes _ _ _ _ _ _ _ _ _ _
-    (ap length (same-filter _ _ 0 s.geometry.stripes (λ k lt. whole-is s past kept lost made are losses k (omega arith))))
-    (count-from past listed dirt.each 0 s.geometry.stripes)
-    (ap length (same-filter _ _ 0 s.geometry.stripes (λ k lt. any-is s past lost made losses k (omega arith))))
-    (lines-from past commands known listed dirt.each 0 s.geometry.stripes)
+    assembled (length past) (stripes_of s.geometry) _ _ _ _ _ _ _ _ _ _
+    (ap length (same-filter _ _ 0 (stripes_of s.geometry) (λ k lt. whole-is s past kept lost made are losses k (omega arith))))
+    (count-from past listed dirt.each 0 (stripes_of s.geometry))
+    (ap length (same-filter _ _ 0 (stripes_of s.geometry) (λ k lt. any-is s past lost made losses k (omega arith))))
+    (lines-from past commands known listed dirt.each 0 (stripes_of s.geometry))
     (same-flat_map _ _ 0 s.geometry.targets (λ i lt. ap (λ n. absent_text i n)
-    (ap length (same-filter _ _ 0 s.geometry.stripes (λ k lt2. losses.absent i k (omega arith) (omega arith))))))
+    (ap length (same-filter _ _ 0 (stripes_of s.geometry) (λ k lt2. losses.absent i k (omega arith) (omega arith))))))
 
 -- ---- answers
 

@@ -15,7 +15,7 @@ use Rattle.array_journal.specs.Readback.{folded_back}
 use Rattle.array_journal.specs.ExampleJournals.{small, tiny, write_and_read, loss_meets_a_read}
 use Rattle.host_scripts.specs.declared.script.Script.{Script}
 use Rattle.stripe_check.specs.Asked.{calls_seen, is_of_host, goes_back}
-use Rattle.stripe_check.specs.Begins.{Begin, Opening, Refusal}
+use Rattle.host_requests.specs.Begins.{Begin, Opening, Refusal}
 use Rattle.stripe_check.specs.AskedExamples.{script_of, write_then_read, read_and_lose, write_and_reset, hand_back_and_reset, lose_and_read, lose_and_rebuild, lose_two, refused_as, illegal_calls, illegal_refusals, WriteAndReadAsked, UnclosedUnasked, OtherBlockUnasked, OtherOrderUnasked, UnservedUnasked, GivenUpAsked, RefusedAsked, OtherReasonUnasked, RebuiltAsked, SpoiltAsked, HandedBackAsked, GatheredAsked, IllegalAsked, both_hosts, second_refused_first, EitherHostFirst, OutOfTurnUnasked, UnnotedUnasked, LossAllowed, StrangerUnasked}
 
 -- what holds of the first host and the second holds of both

@@ -1,5 +1,6 @@
 -- What is kept of lost disks while a journal is read. Places in it are counted from 1, and 0 is nowhere.
 use Rattle.std.specs.Prelude.{◌≡◌, ◌<◌, ◌≤◌, nat_lt, ℕ, Bool, List, [], length, get_or}
+use Rattle.stripe_layout.specs.Layout.{stripes_of}
 use Rattle.array_journal.specs.declared.entry.Entry.{Entry}
 use Rattle.array_journal.specs.declared.setting.Setting.{Setting}
 use Rattle.array_journal.specs.Lives.{absent_in}
@@ -16,7 +17,7 @@ is_lost lost made i stripe = nat_lt (made_at made i stripe) (get_or lost i 0)
 pub record AreLosses (s : Setting) (whole past : List Entry) (lost : List ℕ) (made : List (List ℕ)) : Type 0 where
   pub lost_count : length lost ≡ s.geometry.targets
   pub made_count : length made ≡ s.geometry.targets
-  pub units : (i : ℕ) → i < s.geometry.targets → length (get_or made i []) ≡ s.geometry.stripes
+  pub units : (i : ℕ) → i < s.geometry.targets → length (get_or made i []) ≡ stripes_of s.geometry
   pub lost_before : (i : ℕ) → get_or lost i 0 ≤ length past
   pub made_before : (i stripe : ℕ) → made_at made i stripe ≤ length past
-  pub absent : (i stripe : ℕ) → i < s.geometry.targets → stripe < s.geometry.stripes → is_lost lost made i stripe ≡ absent_in whole i stripe past
+  pub absent : (i stripe : ℕ) → i < s.geometry.targets → stripe < stripes_of s.geometry → is_lost lost made i stripe ≡ absent_in whole i stripe past

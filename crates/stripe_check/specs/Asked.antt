@@ -5,6 +5,7 @@
 -- that it asks for; `IsDecided`, a piece is begun as the book decides then; `is_owned`, no entry is of no call.
 use Rattle.std.specs.Prelude.{◌≡◌, ◌<◌, ℕ, zero, suc, ◌+◌, ◌==◌, ◌&&◌, ◌||◌, nat_lt, nat_le, if◌then◌else◌, Bool, true, false, List, [], ◌∷◌, ◌++◌, length, reverse, filter, Option, Some, None}
 use Rattle.std.specs.List.{list_all}
+use Rattle.stripe_layout.specs.Layout.{stripes_of}
 use Rattle.array_journal.specs.declared.entry.Entry.{Entry}
 use Rattle.array_journal.specs.declared.event.Event.{Event}
 use Rattle.array_journal.specs.declared.event.Event.TheVariants.{Gone, Open, Note, Swap, Refuse}
@@ -13,9 +14,8 @@ use Rattle.array_journal.specs.Entries.{same_at, some_at, entry_at}
 use Rattle.array_journal.specs.Run.{NoneOpen}
 use Rattle.host_scripts.specs.declared.script.Call.{Call}
 use Rattle.host_scripts.specs.declared.script.Script.{Script}
-use Rattle.stripe_check.specs.Begins.{begin_of, Opening, Refusal, Swapping}
-use Rattle.stripe_check.specs.Cuts.{pieces_of}
-use Rattle.stripe_check.specs.Jobs.{Job, Fails, Moves, Loses, Wipes, Replaces, Rebuilds, Resyncs, job_of, call_at}
+use Rattle.host_requests.specs.Begins.{begin_of, transfer_pieces, Opening, Refusal, Swapping}
+use Rattle.host_requests.specs.Requests.{Request, Fails, Moves, Loses, Wipes, Replaces, Rebuilds, Resyncs, request_of, call_at}
 use Rattle.stripe_check.specs.Steps.{Step, Begins, Ends, Refused, Lost, WipedAt, Swapped, Renewed, Done, GivenUp, Spoilt, call_of, steps_of}
 
 -- ---- each host's calls come one after another
@@ -94,15 +94,15 @@ is_replaced slot (Swapped other name ∷ Renewed lock swap ∷ []) = (other == s
 is_replaced slot (Refused piece NotLost ∷ []) = piece == 0
 is_replaced slot _ = false
 
-abbrev pub IsServed : Script → List Entry → Job → List Step → Type 0
+abbrev pub IsServed : Script → List Entry → Request → List Step → Type 0
 -- A host's call that fails a test has one entry: piece 0 is refused as illegal, with the sense of the first test that fails.
 IsServed script whole (Fails sense) steps = steps ≡ Refused 0 (Illegal sense) ∷ []
 -- Any other call of a host goes through its pieces, up to and with the first that is refused or spoilt. So a call of no
 -- blocks has no entry.
-IsServed script whole (Moves t) steps = goes_through true (length (pieces_of script t.lba t.count)) 0 0 steps ≡ true
+IsServed script whole (Moves t) steps = goes_through true (length (transfer_pieces script t)) 0 0 steps ≡ true
 -- To rebuild and to resync goes through all stripes, whatever becomes of one of them.
-IsServed script whole (Rebuilds slot) steps = goes_through false script.geometry.stripes 0 0 steps ≡ true
-IsServed script whole Resyncs steps = goes_through false script.geometry.stripes 0 0 steps ≡ true
+IsServed script whole (Rebuilds slot) steps = goes_through false (stripes_of script.geometry) 0 0 steps ≡ true
+IsServed script whole Resyncs steps = goes_through false (stripes_of script.geometry) 0 0 steps ≡ true
 -- The other calls of the operator have one entry at their target; a new disk has two, or a refusal.
 IsServed script whole (Loses target) steps = is_lost whole target steps ≡ true
 IsServed script whole (Wipes target what) steps = steps ≡ WipedAt (target + 1) what ∷ []
@@ -112,7 +112,7 @@ IsServed script whole (Replaces slot) steps = is_replaced slot steps ≡ true
 abbrev pub AreServed : Script → List Entry → ℕ → List Call → Type 0
 AreServed script whole number [] = Unit {0}
 AreServed script whole number (call ∷ calls) =
-    IsServed script whole (job_of script.geometry call.action) (steps_of number whole) × AreServed script whole (suc number) calls
+    IsServed script whole (request_of script.geometry call.action) (steps_of number whole) × AreServed script whole (suc number) calls
 
 -- ---- a piece is begun as the book decides
 

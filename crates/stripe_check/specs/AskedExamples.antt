@@ -16,11 +16,12 @@ use Rattle.host_scripts.specs.declared.script.Action.TheVariants.{Read, Write, R
 use Rattle.host_scripts.specs.declared.script.Call.{Call}
 use Rattle.host_scripts.specs.declared.script.Script.{Script}
 use Rattle.stripe_check.specs.Asked.{IsAsked}
-use Rattle.stripe_check.specs.Jobs.{illegal}
+use Rattle.host_requests.specs.Requests.{illegal}
 
 -- a script of these calls for two hosts, without maxima
 abbrev pub script_of : Setting → List Call → Script
 script_of s calls = record {
+  version = 1;
   geometry = s.geometry;
   buffer = s.buffer;
   maxima = 0 ∷ 0 ∷ 0 ∷ [];

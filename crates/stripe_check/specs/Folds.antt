@@ -13,7 +13,7 @@ use Rattle.dirty_list.specs.Listings.{command_of}
 use Rattle.array_journal.specs.Lives.{closes_done, is_rebuild}
 use Rattle.array_journal.specs.Media.{media}
 use Rattle.stripe_check.specs.declared.command_summary.Brief.{Brief}
-use Rattle.stripe_check.specs.declared.command_summary.Command.{Command}
+use Rattle.stripe_check.specs.declared.command_summary.CommandSummary.{CommandSummary}
 use Rattle.stripe_check.specs.declared.command_summary.Tally.{Tally}
 use Rattle.stripe_check.specs.declared.check.Failure.{Failure}
 use Rattle.stripe_check.specs.Replies.{bytes_read, failure_of}
@@ -29,22 +29,22 @@ abbrev pub brief_of : Task → Brief
 brief_of t = record { call = t.call; piece = t.piece; kind = t.kind; stripe = t.stripe; target = t.target; renews = makes_parity t.kind t }
 
 -- a command that wasn't opened
-abbrev pub unknown : Command
+abbrev pub unknown : CommandSummary
 unknown = record { brief = None; done = false }
 
 -- what entries tell of a command
-abbrev pub known_of : ℕ → List Entry → Command
+abbrev pub known_of : ℕ → List Entry → CommandSummary
 known_of c past = record { brief = option_map brief_of (task_of c past); done = some_at 0 (closes_done c) past }
 
 -- the commands by their numbers
-pub record AreCommands (past : List Entry) (kept : List Command) : Type 0 where
+pub record AreCommands (past : List Entry) (kept : List CommandSummary) : Type 0 where
   pub each : (c : ℕ) → get_or kept c unknown ≡ known_of c past
 
 -- one command of a number is opened, or is closed as done
-abbrev pub opened_at : ℕ → Brief → ℕ → Command → Command
+abbrev pub opened_at : ℕ → Brief → ℕ → CommandSummary → CommandSummary
 opened_at number brief c old = if number == c then record old { brief = Some brief } else old
 
-abbrev pub closed_at : ℕ → ℕ → Command → Command
+abbrev pub closed_at : ℕ → ℕ → CommandSummary → CommandSummary
 closed_at number c old = if number == c then record old { done = true } else old
 
 -- the bytes that a command tells a call, if its kind passes
@@ -73,5 +73,5 @@ abbrev pub briefly_rebuilt_by : Option Brief → Bool → ℕ → Option ℕ
 briefly_rebuilt_by None done i = None
 briefly_rebuilt_by (Some b) done i = if done && is_rebuild b.kind && (b.target == i) then Some b.stripe else None
 
-abbrev pub briefly_rebuilt : Command → ℕ → Option ℕ
+abbrev pub briefly_rebuilt : CommandSummary → ℕ → Option ℕ
 briefly_rebuilt c i = briefly_rebuilt_by c.brief c.done i

@@ -3,12 +3,13 @@ use Rattle.std.specs.Prelude.{ℕ, ◌+◌, ◌*◌, ◌&&◌, not, is_some, Boo
 use Rattle.std.specs.List.{flat_map, list_any}
 use Rattle.blocks_core.specs.Xor.{xor_all, is_zero}
 use Rattle.stripe_layout.specs.declared.geometry.Geometry.{Geometry}
+use Rattle.stripe_layout.specs.Layout.{stripes_of, first_row}
 use Rattle.dirty_list.specs.Listings.{command_of}
 use Rattle.array_journal.specs.Lists.{numbers}
 use Rattle.host_scripts.specs.declared.script.Call.{Call}
 use Rattle.text_fields.specs.Spelling.{line, counted}
 use Rattle.stripe_check.specs.declared.command_summary.Brief.{Brief}
-use Rattle.stripe_check.specs.declared.command_summary.Command.{Command}
+use Rattle.stripe_check.specs.declared.command_summary.CommandSummary.{CommandSummary}
 use Rattle.stripe_check.specs.declared.command_summary.Tally.{Tally}
 use Rattle.stripe_check.specs.declared.check.Failure.{Failure}
 use Rattle.stripe_check.specs.Folds.{unknown}
@@ -32,7 +33,7 @@ lost_units lost made stripes i = length (filter (is_lost lost made i) (numbers 0
 
 -- the exclusive-or of a stripe's rows over all media
 abbrev pub stripe_total : Geometry → List (List ℕ) → ℕ → List ℕ
-stripe_total g media stripe = xor_all (unit_bytes g) (parts_on (stripe * g.unit * g.block) (unit_bytes g) media)
+stripe_total g media stripe = xor_all (unit_bytes g stripe) (parts_on (first_row g stripe * g.block) (unit_bytes g stripe) media)
 
 abbrev pub sums_to_zero : Geometry → List (List ℕ) → ℕ → Bool
 sums_to_zero g media stripe = is_zero (stripe_total g media stripe)
@@ -54,12 +55,12 @@ abbrev pub dirty_briefly : ℕ → Option Brief → List ℕ
 dirty_briefly stripe None = []
 dirty_briefly stripe (Some b) = line (counted (codes "dirty") stripe (counted (codes " call") b.call (counted (codes " piece") b.piece [])))
 
-abbrev pub listed_line : List Command → ℕ → Option ℕ → List ℕ
+abbrev pub listed_line : List CommandSummary → ℕ → Option ℕ → List ℕ
 listed_line kept stripe None = []
 listed_line kept stripe (Some c) = dirty_briefly stripe (get_or kept c unknown).brief
 
 -- the lines of the listed stripes
-abbrev pub listed_lines : List Command → List (ℕ × ℕ) → ℕ → List ℕ
+abbrev pub listed_lines : List CommandSummary → List (ℕ × ℕ) → ℕ → List ℕ
 listed_lines kept listed stripes = flat_map (λ stripe. listed_line kept stripe (command_of stripe listed)) (numbers 0 stripes)
 
 -- the lines of the targets with lost units
@@ -74,12 +75,12 @@ counts_line stripes zeros listed absent =
 abbrev pub entries_text : ℕ → List ℕ
 entries_text count = line (counted (codes "entries") count [])
 
-abbrev pub summary_found : Geometry → ℕ → List (List ℕ) → List Command → List (ℕ × ℕ) → List ℕ → List (List ℕ) → List ℕ
+abbrev pub summary_found : Geometry → ℕ → List (List ℕ) → List CommandSummary → List (ℕ × ℕ) → List ℕ → List (List ℕ) → List ℕ
 summary_found g count media kept listed lost made =
     entries_text count
-    ++ (counts_line g.stripes (zero_stripes g media lost made g.stripes) (listed_count listed g.stripes) (lost_stripes lost made g.targets g.stripes)
-    ++ (listed_lines kept listed g.stripes
-    ++ lost_lines lost made g.targets g.stripes))
+    ++ (counts_line (stripes_of g) (zero_stripes g media lost made (stripes_of g)) (listed_count listed (stripes_of g)) (lost_stripes lost made g.targets (stripes_of g))
+    ++ (listed_lines kept listed (stripes_of g)
+    ++ lost_lines lost made g.targets (stripes_of g)))
 
 -- the answers to calls, by what was kept of those behind n of them
 abbrev pub replies_found : List (List ℕ) → List (Option Failure) → List Tally → ℕ → List Call → List ℕ

@@ -8,9 +8,6 @@ pub mod CallOutcomes
 pub mod Found
 pub mod Findings
 pub use Rattle.journal_text.specs.Traces
-pub mod Cuts
-pub mod Jobs
-pub mod Begins
 pub mod Steps
 pub mod Asked
 pub mod AskedExamples

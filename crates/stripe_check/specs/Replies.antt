@@ -1,5 +1,5 @@
 -- What each call of a script is answered, as a journal tells it. A list called past has the newest entry first.
-use Rattle.std.specs.Prelude.{ℕ, ◌+◌, ◌==◌, if◌then◌else◌, List, [], ◌∷◌, ◌++◌, slice_index, Option, Some, None, codes}
+use Rattle.std.specs.Prelude.{ℕ, ◌+◌, ◌==◌, if◌then◌else◌, List, [], ◌∷◌, ◌++◌, Option, Some, None, codes}
 use Rattle.std.specs.Option.{option_map}
 use Rattle.std.specs.Fmt.{decimal}
 use Rattle.sense_data.specs.declared.senses.Pointer.{Pointer}
@@ -12,6 +12,7 @@ use Rattle.array_journal.specs.declared.event.Why.{Why}
 use Rattle.array_journal.specs.declared.event.Why.TheVariants.{Illegal, Medium, NotReady, Unfitted, Present, Listed, Second, Clean, Absent, NotLost}
 use Rattle.array_journal.specs.declared.task.Task.{Task}
 use Rattle.array_journal.specs.Commands.{task_of}
+use Rattle.host_requests.specs.Requests.{is_write}
 use Rattle.array_journal.specs.Host.{HostItem, ReadItem, WroteItem, RefusedItem, host}
 use Rattle.host_scripts.specs.declared.script.Action.{Action}
 use Rattle.host_scripts.specs.declared.script.Action.TheVariants.{Read, Write, Fill, Raw, Lose, Reset, DropNext, Replace, Rebuild, Resync}
@@ -113,9 +114,9 @@ read_error = plain_check 3 0x11 0
 abbrev pub write_error : Check
 write_error = plain_check 3 0x0c 0
 
--- a CDB writes by its operation code, that of WRITE(10)
+-- where a CDB writes, a write error
 abbrev pub cdb_error : List ℕ → Check
-cdb_error cdb = if slice_index cdb 0 == 0x2a then write_error else read_error
+cdb_error cdb = if is_write cdb then write_error else read_error
 
 -- a disk was replaced, unless it was refused
 abbrev pub replaced_text : Option Failure → List ℕ

@@ -1,6 +1,7 @@
 -- The report of a run: a line for each call, and a summary of what the journal leaves.
 use Rattle.std.specs.Prelude.{ℕ, ◌==◌, if◌then◌else◌, List, [], ◌++◌, length, reverse, Option, Some, None, codes}
 use Rattle.std.specs.List.{flat_map}
+use Rattle.stripe_layout.specs.Layout.{stripes_of}
 use Rattle.array_journal.specs.declared.entry.Entry.{Entry}
 use Rattle.array_journal.specs.declared.setting.Setting.{Setting}
 use Rattle.array_journal.specs.declared.task.Task.{Task}
@@ -8,13 +9,10 @@ use Rattle.array_journal.specs.Commands.{task_of}
 use Rattle.array_journal.specs.Listed.{Dirty, dirty}
 use Rattle.array_journal.specs.Lists.{numbers}
 use Rattle.host_scripts.specs.declared.script.Script.{Script}
+use Rattle.host_requests.specs.Settings.{setting_of}
 use Rattle.text_fields.specs.Spelling.{line, counted}
 use Rattle.stripe_check.specs.Replies.{reply_lines}
 use Rattle.stripe_check.specs.Sums.{stripes_that, has_absent, is_balanced, absent_units}
-
--- what a script sets an array to
-abbrev pub setting_of : Script → Setting
-setting_of s = record { geometry = s.geometry; buffer = s.buffer; mode = s.mode }
 
 -- how many entries
 abbrev pub entries_line : List Entry → List ℕ
@@ -23,7 +21,7 @@ entries_line past = line (counted (codes "entries") (length past) [])
 -- how many stripes there are, have all units and come to zero, are listed, and have an absent unit
 abbrev pub stripes_line : Setting → List Entry → List ℕ
 stripes_line s past =
-    line (counted (codes "stripes") s.geometry.stripes
+    line (counted (codes "stripes") (stripes_of s.geometry)
     (counted (codes " zero") (stripes_that s (is_balanced s past))
     (counted (codes " listed") (length (dirty s past))
     (counted (codes " absent") (stripes_that s (has_absent s past)) []))))

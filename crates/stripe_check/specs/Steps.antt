@@ -36,16 +36,16 @@ call_of (Swap slot call) past = Some call
 call_of (Refuse call piece why) past = Some call
 
 -- how a command ends
-pub data Ending : Type 0 where
-  Done : Ending
-  GivenUp : Ending
-  Spoilt : Ending
+pub data CommandEnding : Type 0 where
+  Done : CommandEnding
+  GivenUp : CommandEnding
+  Spoilt : CommandEnding
 
 pub data Step : Type 0 where
   -- a command is opened for a piece
   Begins : (piece command : ℕ) → Step
   -- a command is closed or spoilt
-  Ends : (command : ℕ) (ending : Ending) → Step
+  Ends : (command : ℕ) (ending : CommandEnding) → Step
   -- a piece is refused
   Refused : (piece : ℕ) (why : Why) → Step
   -- a disk is lost in one of its lives, or something is wiped, at a lock

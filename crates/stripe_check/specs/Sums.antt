@@ -6,21 +6,22 @@ use Rattle.stripe_layout.specs.declared.geometry.Geometry.{Geometry}
 use Rattle.array_journal.specs.declared.entry.Entry.{Entry}
 use Rattle.array_journal.specs.declared.setting.Setting.{Setting}
 use Rattle.blocks_core.specs.Lists.{slice}
+use Rattle.stripe_layout.specs.Layout.{stripes_of, first_row, unit_rows}
 use Rattle.array_journal.specs.Lists.{numbers}
 use Rattle.array_journal.specs.Media.{rows_on}
 use Rattle.array_journal.specs.Lives.{is_absent}
 
--- the bytes of a unit
-abbrev pub unit_bytes : Geometry → ℕ
-unit_bytes g = g.unit * g.block
+-- the bytes of a unit of a stripe
+abbrev pub unit_bytes : Geometry → ℕ → ℕ
+unit_bytes g stripe = unit_rows g stripe * g.block
 
 -- a stripe's rows on target i
 abbrev pub unit_on : Setting → List Entry → ℕ → ℕ → List ℕ
-unit_on s past stripe i = rows_on s i past (stripe * s.geometry.unit) (unit_bytes s.geometry)
+unit_on s past stripe i = rows_on s i past (first_row s.geometry stripe) (unit_bytes s.geometry stripe)
 
 -- the exclusive-or of a stripe's rows over all targets
 abbrev pub sum_of : Setting → List Entry → ℕ → List ℕ
-sum_of s past stripe = xor_all (unit_bytes s.geometry) (map (unit_on s past stripe) (numbers 0 s.geometry.targets))
+sum_of s past stripe = xor_all (unit_bytes s.geometry stripe) (map (unit_on s past stripe) (numbers 0 s.geometry.targets))
 
 -- so many bytes from a place on, of each medium
 abbrev pub parts_on : ℕ → ℕ → List (List ℕ) → List (List ℕ)
@@ -32,7 +33,7 @@ has_absent s past stripe = list_any (λ i. is_absent i stripe past) (numbers 0 s
 
 -- how many stripes pass
 abbrev pub stripes_that : Setting → (ℕ → Bool) → ℕ
-stripes_that s test = length (filter test (numbers 0 s.geometry.stripes))
+stripes_that s test = length (filter test (numbers 0 (stripes_of s.geometry)))
 
 -- no unit of a stripe is absent, and its rows come to zero
 abbrev pub is_balanced : Setting → List Entry → ℕ → Bool

@@ -2,12 +2,13 @@
 
 ghost use Rattle.std.specs.Prelude.{◌≡◌, ◌+◌, ◌≤◌, ◌<◌, nat_lt, ℕ, [], ◌∷◌, List, length, get_or, slice_set, OnOk, IfOk, reverse};
 ghost use Rattle.std.specs.List.{list_any};
+ghost use Rattle.stripe_layout.specs.Layout.{IsArray};
 ghost use Rattle.array_journal.specs.declared.entry.Entry.{Entry};
 ghost use Rattle.array_journal.specs.declared.setting.Setting.{Setting};
 ghost use Rattle.stripe_check.specs.Folds.{AreCommands, briefly_rebuilt};
 ghost use Rattle.stripe_check.specs.AbsentUnits.{AreLosses, is_lost};
 
-use crate::command_summary::Command;
+use crate::command_summary::CommandSummary;
 use crate::commands::command_at;
 use crate::places::Places;
 use array_journal::{Entry, Event, Journal, Kind};
@@ -25,19 +26,20 @@ pub struct Losses {
 
 /// Before any entry nothing is lost.
 fn first_losses(alloc: Global, geometry: &Geometry) -> Result<Losses, Memory>
+    requires { IsArray geometry.now }
     ensures { IfOk result (λ l. (s : Setting) (whole : List Entry) → s.geometry ≡ geometry.now → AreLosses s whole [] l.lost.items l.made.items) }
 {
     let mut lost = Vec::new(alloc);
     let mut made = Vec::new(alloc);
     for _ in 0..geometry.targets {
         lost.push(0)?;
-        made.push(Places::nowhere(alloc, geometry.stripes as usize)?)?;
+        made.push(Places::nowhere(alloc, geometry.stripes() as usize)?)?;
     }
     Ok(Losses { lost, made })
 }
 
 /// The stripe whose unit at a target a command rebuilt, where it did and is closed as done.
-fn has_rebuilt(command: &Command, target: usize) -> Option<u32>
+fn has_rebuilt(command: &CommandSummary, target: usize) -> Option<u32>
     ensures { result ≡ briefly_rebuilt command.now target }
 {
     match command.brief {
@@ -50,7 +52,7 @@ fn has_rebuilt(command: &Command, target: usize) -> Option<u32>
 }
 
 /// What the entry at a place tells of losses, over what all entries tell of commands.
-fn keep_loss(losses: &mut Losses, commands: &[Command], entry: &Entry, place: usize)
+fn keep_loss(losses: &mut Losses, commands: &[CommandSummary], entry: &Entry, place: usize)
     ensures { (s : Setting) (whole past : List Entry) → AreCommands whole commands.now → place ≡ length past + 1 → AreLosses s whole past losses.old.lost.items losses.old.made.items → AreLosses s whole (entry.now ∷ past) losses.new.lost.items losses.new.made.items }
 {
     let lock = usize::from(entry.lock);
@@ -74,9 +76,10 @@ fn keep_loss(losses: &mut Losses, commands: &[Command], entry: &Entry, place: us
 pub fn losses_of(
     alloc: Global,
     geometry: &Geometry,
-    commands: &[Command],
+    commands: &[CommandSummary],
     journal: &Journal,
 ) -> Result<Losses, Memory>
+    requires { IsArray geometry.now }
     ensures { IfOk result (λ l. (s : Setting) → s.geometry ≡ geometry.now → AreCommands (reverse journal.now) commands.now → AreLosses s (reverse journal.now) (reverse journal.now) l.lost.items l.made.items) }
 {
     let mut losses = first_losses(alloc, geometry)?;

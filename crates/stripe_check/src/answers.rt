@@ -7,7 +7,7 @@ ghost use Rattle.array_journal.specs.Host.{is_read, is_degraded_read};
 ghost use Rattle.stripe_check.specs.Folds.{AreCommands, AreReads, AreFailures, told_if};
 
 use crate::check::Failure;
-use crate::command_summary::{Brief, Command};
+use crate::command_summary::{Brief, CommandSummary};
 use crate::commands::command_at;
 use array_journal::{Entry, Event, Kind};
 use blocks_core::{Bytes, Memory};
@@ -27,7 +27,7 @@ fn add_read(reads: &mut Vec<Bytes>, call: u32, bytes: &[u8]) -> Result<(), Memor
 }
 
 /// Blocks that a command fetched: a read tells them its call.
-fn add_fetched(reads: &mut Vec<Bytes>, command: Command, bytes: &[u8]) -> Result<(), Memory>
+fn add_fetched(reads: &mut Vec<Bytes>, command: CommandSummary, bytes: &[u8]) -> Result<(), Memory>
     ensures count { OnOk result (length reads.new.items ≡ length reads.old.items) }
     ensures each { OnOk result ((n : ℕ) → n < length reads.old.items → get_or reads.new.items n [] ≡ get_or reads.old.items n [] ++ told_if is_read (n + 1) command.brief bytes.now) }
 {
@@ -44,7 +44,7 @@ fn add_fetched(reads: &mut Vec<Bytes>, command: Command, bytes: &[u8]) -> Result
 }
 
 /// Blocks with which a command was closed: a degraded read tells them its call.
-fn add_closed(reads: &mut Vec<Bytes>, command: Command, bytes: &[u8]) -> Result<(), Memory>
+fn add_closed(reads: &mut Vec<Bytes>, command: CommandSummary, bytes: &[u8]) -> Result<(), Memory>
     ensures count { OnOk result (length reads.new.items ≡ length reads.old.items) }
     ensures each { OnOk result ((n : ℕ) → n < length reads.old.items → get_or reads.new.items n [] ≡ get_or reads.old.items n [] ++ told_if is_degraded_read (n + 1) command.brief bytes.now) }
 {
@@ -61,7 +61,11 @@ fn add_closed(reads: &mut Vec<Bytes>, command: Command, bytes: &[u8]) -> Result<
 }
 
 /// What an entry told calls.
-pub fn keep_read(reads: &mut Vec<Bytes>, commands: &[Command], entry: &Entry) -> Result<(), Memory>
+pub fn keep_read(
+    reads: &mut Vec<Bytes>,
+    commands: &[CommandSummary],
+    entry: &Entry,
+) -> Result<(), Memory>
     ensures count { OnOk result (length reads.new.items ≡ length reads.old.items) }
     ensures told { OnOk result ((g : Geometry) (past : List Entry) → AreCommands past commands.now → AreReads g past reads.old.items → AreReads g (entry.now ∷ past) reads.new.items) }
 {
@@ -96,7 +100,7 @@ fn set_failure(failures: &mut [Option<Failure>], call: u32, failure: Failure)
 }
 
 /// Why an entry makes calls fail.
-pub fn keep_failure(failures: &mut [Option<Failure>], commands: &[Command], entry: &Entry)
+pub fn keep_failure(failures: &mut [Option<Failure>], commands: &[CommandSummary], entry: &Entry)
     ensures { (past : List Entry) → AreCommands past commands.now → AreFailures past failures.old → AreFailures (entry.now ∷ past) failures.new }
 {
     match &entry.event {

@@ -6,7 +6,7 @@ ghost use Rattle.stripe_check.specs.CallOutcomes.{Tells};
 
 use crate::answers::{keep_failure, keep_read};
 use crate::check::Failure;
-use crate::command_summary::{Command, Tally};
+use crate::command_summary::{CommandSummary, Tally};
 use crate::commands::keep_command;
 use crate::listed::keep_listed;
 use crate::tallies::keep_tally;
@@ -19,7 +19,7 @@ use std::alloc::Global;
 /// pieces; and which stripes are listed, with their commands.
 #[derive(Drop)]
 pub struct Story {
-    pub commands: Vec<Command>,
+    pub commands: Vec<CommandSummary>,
     pub reads: Vec<Bytes>,
     pub failures: Vec<Option<Failure>>,
     pub tallies: Vec<Tally>,

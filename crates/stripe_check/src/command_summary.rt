@@ -14,7 +14,7 @@ pub struct Brief {
 
 /// What is known of a command: its task, once it was opened, and whether it is closed as done.
 #[derive(Clone, Copy, Debug, PartialEq, Eq)]
-pub struct Command {
+pub struct CommandSummary {
     pub brief: Option<Brief>,
     pub done: bool,
 }

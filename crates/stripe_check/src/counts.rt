@@ -2,12 +2,12 @@
 
 ghost use Rattle.std.specs.Prelude.{◌≡◌, ◌++◌, OnOk, IfOk, is_some};
 ghost use Rattle.dirty_list.specs.Listings.{command_of};
-ghost use Rattle.stripe_layout.specs.Layout.{IsArray};
+ghost use Rattle.stripe_layout.specs.Layout.{IsArray, stripes_of};
 ghost use Rattle.stripe_check.specs.Found.{any_lost, lost_stripes, lost_units, stripe_total, sums_to_zero, is_whole, zero_stripes, listed_count, dirty_briefly, listed_line, listed_lines, lost_lines, counts_line, entries_text};
 ghost use Rattle.stripe_check.specs.Reports.{absent_text};
 
 use crate::absent_units::Losses;
-use crate::command_summary::{Brief, Command};
+use crate::command_summary::{Brief, CommandSummary};
 use crate::commands::command_at;
 use crate::medium::ReplayedMedium;
 use crate::sums::parts_sum;
@@ -31,10 +31,11 @@ fn is_any_lost(losses: &Losses, targets: u8, stripe: u32) -> bool
 
 /// How many stripes lost a unit.
 pub fn count_lost(losses: &Losses, geometry: &Geometry) -> u32
-    ensures { result ≡ lost_stripes losses.now.lost.items losses.now.made.items geometry.now.targets geometry.now.stripes }
+    requires { IsArray geometry.now }
+    ensures { result ≡ lost_stripes losses.now.lost.items losses.now.made.items geometry.now.targets (stripes_of geometry.now) }
 {
     let mut count = 0;
-    for stripe in 0..geometry.stripes {
+    for stripe in 0..geometry.stripes() {
         if is_any_lost(losses, geometry.targets, stripe) {
             count += 1;
         }
@@ -52,9 +53,10 @@ pub fn stripe_sum(
     requires { IsArray geometry.now }
     ensures { IfOk result (λ sum. sum ≡ stripe_total geometry.now media.now stripe) }
 {
-    let unit = geometry.unit as usize;
     let block = geometry.block as usize;
-    parts_sum(alloc, media, stripe as usize * unit * block, unit * block)
+    let first = geometry.first_row(stripe) as usize;
+    let rows = geometry.unit_rows(stripe) as usize;
+    parts_sum(alloc, media, first * block, rows * block)
 }
 
 fn is_sum_zero(
@@ -95,10 +97,10 @@ pub fn count_zero(
     losses: &Losses,
 ) -> Result<u32, Memory>
     requires { IsArray geometry.now }
-    ensures { IfOk result (λ n. n ≡ zero_stripes geometry.now media.now losses.now.lost.items losses.now.made.items geometry.now.stripes) }
+    ensures { IfOk result (λ n. n ≡ zero_stripes geometry.now media.now losses.now.lost.items losses.now.made.items (stripes_of geometry.now)) }
 {
     let mut count = 0;
-    for stripe in 0..geometry.stripes {
+    for stripe in 0..geometry.stripes() {
         let whole = is_whole(alloc, geometry, media, losses, stripe)?;
         if whole {
             count += 1;
@@ -174,7 +176,7 @@ fn push_dirty(text: &mut Bytes, stripe: u32, brief: &Brief) -> Result<(), Memory
 /// The line of a stripe, if it is listed.
 fn push_listed(
     text: &mut Bytes,
-    commands: &[Command],
+    commands: &[CommandSummary],
     stripe: u32,
     listed: Option<u32>,
 ) -> Result<(), Memory>
@@ -192,7 +194,7 @@ fn push_listed(
 /// The lines of the listed stripes.
 pub fn push_all_listed(
     text: &mut Bytes,
-    commands: &[Command],
+    commands: &[CommandSummary],
     listed: &DirtyList,
     stripes: u32,
 ) -> Result<(), Memory>
@@ -218,10 +220,12 @@ fn push_absent(text: &mut Bytes, target: u8, units: u32) -> Result<(), Memory>
 
 /// The lines of the targets with absent units.
 pub fn push_all_absent(text: &mut Bytes, losses: &Losses, geometry: &Geometry) -> Result<(), Memory>
-    ensures { OnOk result (text.new ≡ text.old ++ lost_lines losses.now.lost.items losses.now.made.items geometry.now.targets geometry.now.stripes) }
+    requires { IsArray geometry.now }
+    ensures { OnOk result (text.new ≡ text.old ++ lost_lines losses.now.lost.items losses.now.made.items geometry.now.targets (stripes_of geometry.now)) }
 {
+    let stripes = geometry.stripes();
     for target in 0..geometry.targets {
-        push_absent(text, target, count_units(losses, target, geometry.stripes))?;
+        push_absent(text, target, count_units(losses, target, stripes))?;
     }
     Ok(())
 }

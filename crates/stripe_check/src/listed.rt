@@ -4,7 +4,7 @@ ghost use Rattle.std.specs.Prelude.{◌∷◌, List, OnOk};
 ghost use Rattle.array_journal.specs.declared.entry.Entry.{Entry};
 ghost use Rattle.stripe_check.specs.Folds.{AreCommands, AreListed};
 
-use crate::command_summary::Command;
+use crate::command_summary::CommandSummary;
 use crate::commands::command_at;
 use array_journal::{Entry, Event};
 use blocks_core::Memory;
@@ -13,7 +13,7 @@ use dirty_list::DirtyList;
 /// What an entry does to the list.
 pub fn keep_listed(
     listed: &mut DirtyList,
-    commands: &[Command],
+    commands: &[CommandSummary],
     entry: &Entry,
 ) -> Result<(), Memory>
     ensures { OnOk result ((past : List Entry) → AreCommands past commands.now → AreListed past listed.old → AreListed (entry.now ∷ past) listed.new) }

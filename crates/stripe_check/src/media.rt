@@ -18,7 +18,7 @@ fn medium_size(geometry: &Geometry) -> usize
     requires { IsArray geometry.now }
     ensures { result ≡ rows_of geometry.now * geometry.now.block }
 {
-    geometry.stripes as usize * geometry.unit as usize * geometry.block as usize
+    geometry.rows() as usize * geometry.block as usize
 }
 
 /// What an event at a target does to its medium.

@@ -1,6 +1,6 @@
 //! The answers to calls, and their lines.
 
-ghost use Rattle.std.specs.Prelude.{◌≡◌, ◌==◌, ◌<◌, ◌++◌, ◌∷◌, OnOk, slice_index, if◌then◌else◌};
+ghost use Rattle.std.specs.Prelude.{◌≡◌, ◌==◌, ◌<◌, ◌++◌, ◌∷◌, OnOk, if◌then◌else◌};
 ghost use Rattle.text_fields.specs.Spelling.{upper_byte};
 ghost use Rattle.stripe_check.specs.Replies.{plain_check, sense_check, refusal_check, failure_check, byte_text, check_text, good_text, host_text, read_error, write_error, replaced_text, tally_text, reply_text, answer_line};
 
@@ -8,6 +8,7 @@ use crate::check::{Check, Failure};
 use crate::command_summary::Tally;
 use array_journal::Why;
 use blocks_core::{Bytes, Memory};
+use host_requests::is_write;
 use host_scripts::{Action, Call};
 use sense_data::Sense;
 use text_fields::{push_counted, push_hex, push_number, push_upper_byte, upper_nibble};
@@ -129,16 +130,6 @@ fn medium_error(writes: bool) -> Check
         plain_check(3, 0x0c, 0)
     } else {
         plain_check(3, 0x11, 0)
-    }
-}
-
-/// Whether a CDB has the operation code of WRITE(10).
-fn is_write(cdb: &[u8]) -> bool
-    ensures { result ≡ (slice_index cdb.now 0 == 0x2a) }
-{
-    match cdb {
-        [] => false,
-        [code, ..] => *code == 0x2a,
     }
 }
 

@@ -8,7 +8,8 @@ ghost use Rattle.host_scripts.specs.declared.script.Call.{Call};
 ghost use Rattle.host_scripts.specs.Scripts.{IsScript};
 ghost use Rattle.stripe_check.specs.Findings.{IsFound};
 ghost use Rattle.stripe_check.specs.Found.{summary_found, replies_found};
-ghost use Rattle.stripe_check.specs.Reports.{setting_of, summary_of, report_of};
+ghost use Rattle.host_requests.specs.Settings.{setting_of};
+ghost use Rattle.stripe_check.specs.Reports.{summary_of, report_of};
 ghost use Rattle.stripe_check.specs.Sums.{sum_of};
 ghost use Rattle.stripe_check.specs.Tallies.{untold};
 
@@ -25,6 +26,7 @@ use crate::medium::ReplayedMedium;
 use crate::reply::push_reply;
 use array_journal::{Journal, Setting};
 use blocks_core::{Bytes, Memory};
+use host_requests::setting_of;
 use host_scripts::{Call, Script};
 use std::alloc::Global;
 use stripe_layout::{Geometry, Mode};
@@ -55,17 +57,6 @@ fn found_in(
         story,
         losses,
     })
-}
-
-/// What an array is set to for a script.
-fn setting_of(script: &Script) -> Setting
-    ensures { result ≡ setting_of script.now }
-{
-    Setting {
-        geometry: script.geometry,
-        buffer: script.buffer,
-        mode: script.mode,
-    }
 }
 
 /// What a call was told, by its place.
@@ -130,15 +121,15 @@ fn push_summary(
 {
     let geometry = &setting.geometry;
     let zero = count_zero(alloc, geometry, &found.media, &found.losses)?;
-    let listed = count_listed(&found.story.listed, geometry.stripes);
+    let listed = count_listed(&found.story.listed, geometry.stripes());
     let absent = count_lost(&found.losses, geometry);
     push_entries(text, entries as u64)?;
-    push_counts(text, geometry.stripes, zero, listed, absent)?;
+    push_counts(text, geometry.stripes(), zero, listed, absent)?;
     push_all_listed(
         text,
         &found.story.commands,
         &found.story.listed,
-        geometry.stripes,
+        geometry.stripes(),
     )?;
     push_all_absent(text, &found.losses, geometry)
 }
@@ -185,7 +176,7 @@ pub fn sum(
     // clause says.
     let setting = Setting {
         geometry: *geometry,
-        buffer: geometry.unit,
+        buffer: geometry.greatest_unit(),
         mode: Mode::Supervised,
     };
     let media = media_of(alloc, &setting, journal)?;

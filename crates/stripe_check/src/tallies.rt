@@ -5,7 +5,7 @@ ghost use Rattle.array_journal.specs.declared.entry.Entry.{Entry};
 ghost use Rattle.stripe_check.specs.Folds.{AreCommands, AreTallies};
 ghost use Rattle.stripe_check.specs.Tallies.{is_left, untold, more_done, more_left};
 
-use crate::command_summary::{Command, Tally};
+use crate::command_summary::{CommandSummary, Tally};
 use crate::commands::command_at;
 use array_journal::{Entry, Event, Why};
 use blocks_core::Memory;
@@ -47,7 +47,11 @@ fn is_left(why: &Why) -> bool
 }
 
 /// What an entry adds to the tallies of calls.
-pub fn keep_tally(tallies: &mut [Tally], commands: &[Command], entry: &Entry) -> Result<(), Memory>
+pub fn keep_tally(
+    tallies: &mut [Tally],
+    commands: &[CommandSummary],
+    entry: &Entry,
+) -> Result<(), Memory>
     ensures { OnOk result ((past : List Entry) → AreCommands past commands.now → AreTallies past tallies.old → AreTallies (entry.now ∷ past) tallies.new) }
 {
     match &entry.event {

@@ -5,4 +5,4 @@ pub returns : goal.returns
 returns c =
     summary-text c.args.script.now c.args.journal.now c.setting_of-setting.result 0 c.len.result
     c.in_ok-found.found.media.items c.in_ok-found.found.story c.in_ok-found.found.losses c.new-text.result c.push_summary.new.text
-    c.setting_of-setting.ensures c.in_ok-found.ensures c.len.ensures c.new-text.ensures c.in_ok-push_summary.ensures
+    c.setting_of-setting.ensures.value c.in_ok-found.ensures c.len.ensures c.new-text.ensures c.in_ok-push_summary.ensures
