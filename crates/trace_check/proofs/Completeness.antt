@@ -5,13 +5,13 @@ use Rattle.std.specs.Io.KnownBytes.{Appends}
 use Rattle.array_journal.specs.declared.entry.Entry.{Entry}
 use Rattle.host_scripts.specs.declared.script.Script.{Script}
 use Rattle.outer_io.specs.Outside.{HasRisen}
-use Rattle.program_status.specs.declared.stops.Stop.{Stop}
-use Rattle.program_status.specs.declared.stops.Stop.TheVariants.{Usage, ReadFault, Found, Memory}
+use Rattle.program_status.specs.declared.stops.ProgramStop.{ProgramStop}
+use Rattle.program_status.specs.declared.stops.ProgramStop.TheVariants.{Usage, ReadFault, Found, Memory}
 use Rattle.program_status.specs.Statuses.{IsOneOf}
 use Rattle.program_status.specs.Endings as endings
 use Rattle.program_status.specs.Endings.{AfterReading, IsHanded, IsInputTaken}
 use Rattle.program_status.proofs.Endings.{handed-cut_short, noted-after, noted-cut_short, noted-finding}
-use Rattle.trace_check.specs.declared.checking.findings.Finding.{Finding}
+use Rattle.trace_check.specs.declared.checking.findings.CheckFinding.{CheckFinding}
 use Rattle.trace_check.specs.Endings.{AsksCheck, IsCutShort, IsFoundBy, IsNoteCutShort, IsNoted, IsTold, StopsFor, finding_status, verdict_of}
 use Rattle.trace_check.specs.Findings.{IsAccepted, IsFound}
 use Rattle.trace_check.specs.Notes.{finding_line, accepted_line}
@@ -19,7 +19,7 @@ use Rattle.trace_check.proofs.Accepted.{accepted-not, one-run}
 use Rattle.trace_check.proofs.OneFinding.{one-finding}
 
 -- what becomes of noting what stopped a check
-abbrev pub NotedStop : ℕ → Stop Finding → Option (List ℕ) → Option (List ℕ) → ℕ → ℕ → Type 0
+abbrev pub NotedStop : ℕ → ProgramStop CheckFinding → Option (List ℕ) → Option (List ℕ) → ℕ → ℕ → Type 0
 NotedStop status stop old new before after = endings.IsNoted verdict_of stop old new before after status
 
 -- what becomes of handing out the line of a run
@@ -33,7 +33,7 @@ Accepts left status old new =
 
 abbrev pub Finds : Option (List ℕ) → ℕ → Option (List ℕ) → Option (List ℕ) → Type 0
 Finds left status old new =
-    IfSome left (λ input. (f : Finding) → IsFound input f → ((status ≡ finding_status f) × Appends old new (finding_line f)) ⊎ IsOneOf (3 ∷ 4 ∷ 5 ∷ []) status)
+    IfSome left (λ input. (f : CheckFinding) → IsFound input f → ((status ≡ finding_status f) × Appends old new (finding_line f)) ⊎ IsOneOf (3 ∷ 4 ∷ 5 ∷ []) status)
 
 -- ---- the input of a run
 
@@ -51,7 +51,7 @@ told-finds words (Some input) text status old new told asks = λ f is. absurd (a
 
 -- ---- what stops a check
 
-pub stop-accepts : (words : List (List ℕ)) (left : Option (List ℕ)) (before after status : ℕ) (stop : Stop Finding) (old new : Option (List ℕ)) (nb na : ℕ) (held given : Option (List ℕ)) → StopsFor words left before after stop → NotedStop status stop old new nb na
+pub stop-accepts : (words : List (List ℕ)) (left : Option (List ℕ)) (before after status : ℕ) (stop : ProgramStop CheckFinding) (old new : Option (List ℕ)) (nb na : ℕ) (held given : Option (List ℕ)) → StopsFor words left before after stop → NotedStop status stop old new nb na
     → AsksCheck words → Accepts left status held given
 stop-accepts words None before after status stop old new nb na held given s e asks = tt
 stop-accepts words (Some input) before after status stop old new nb na held given s (inr e) asks = λ script journal a. inr (inr (inl e.0))
@@ -60,7 +60,7 @@ stop-accepts words (Some input) before after status ReadFault old new nb na held
 stop-accepts words (Some input) before after status (Found f note) old new nb na held given s (inl e) asks = λ script journal a. absurd (accepted-not input script journal a f s.0.1)
 stop-accepts words (Some input) before after status Memory old new nb na held given s (inl e) asks = λ script journal a. inr (inr (inr (inl e.0)))
 
-pub stop-finds : (words : List (List ℕ)) (left : Option (List ℕ)) (before after status : ℕ) (stop : Stop Finding) (old new : Option (List ℕ)) (nb na : ℕ) → StopsFor words left before after stop → NotedStop status stop old new nb na
+pub stop-finds : (words : List (List ℕ)) (left : Option (List ℕ)) (before after status : ℕ) (stop : ProgramStop CheckFinding) (old new : Option (List ℕ)) (nb na : ℕ) → StopsFor words left before after stop → NotedStop status stop old new nb na
     → AsksCheck words → Finds left status old new
 stop-finds words None before after status stop old new nb na s e asks = tt
 stop-finds words (Some input) before after status stop old new nb na s (inr e) asks = λ f is. inr (inr (inl e.0))
@@ -68,10 +68,10 @@ stop-finds words (Some input) before after status Usage old new nb na s (inl e) 
 stop-finds words (Some input) before after status ReadFault old new nb na s (inl e) asks = λ f is. inr (inl e.0)
 stop-finds words (Some input) before after status (Found g note) old new nb na s (inl e) asks = λ f is.
     let same = one-finding input g f s.0.1 is in
-    inl (e.0 ∙ ap (λ (x : Finding). finding_status x) same, subst (λ (t : List ℕ). Appends old new t) (s.1 ∙ ap (λ (x : Finding). finding_line x) same) e.1)
+    inl (e.0 ∙ ap (λ (x : CheckFinding). finding_status x) same, subst (λ (t : List ℕ). Appends old new t) (s.1 ∙ ap (λ (x : CheckFinding). finding_line x) same) e.1)
 stop-finds words (Some input) before after status Memory old new nb na s (inl e) asks = λ f is. inr (inr (inr (inl e.0)))
 
-pub stop-complete : (words : List (List ℕ)) (left : Option (List ℕ)) (before after out_before out_after status : ℕ) (stop : Stop Finding) (old new : Option (List ℕ)) (nb na : ℕ) → StopsFor words left before after stop → NotedStop status stop old new nb na
+pub stop-complete : (words : List (List ℕ)) (left : Option (List ℕ)) (before after out_before out_after status : ℕ) (stop : ProgramStop CheckFinding) (old new : Option (List ℕ)) (nb na : ℕ) → StopsFor words left before after stop → NotedStop status stop old new nb na
     → AsksCheck words → IfSome left (λ input. (script : Script) (journal : List Entry) → IsAccepted input script journal → ¬ HasRisen before after → ¬ HasRisen out_before out_after → ¬ HasRisen nb na → IsOneOf (0 ∷ 5 ∷ []) status)
 stop-complete words None before after ob oa status stop old new nb na s e asks = tt
 stop-complete words (Some input) before after ob oa status stop old new nb na s (inr e) asks = λ script journal a read written noted. absurd (noted e.1)
@@ -83,13 +83,13 @@ stop-complete words (Some input) before after ob oa status Memory old new nb na 
 -- ---- a write fault
 
 -- what a stop says once the input is read; one that comes of the words says nothing
-read-after : (Said : Type 0) (words : List (List ℕ)) (left : Option (List ℕ)) (before after : ℕ) (stop : Stop Finding) → StopsFor words left before after stop → (AsksCheck words → AfterReading Said stop) → AfterReading Said stop
+read-after : (Said : Type 0) (words : List (List ℕ)) (left : Option (List ℕ)) (before after : ℕ) (stop : ProgramStop CheckFinding) → StopsFor words left before after stop → (AsksCheck words → AfterReading Said stop) → AfterReading Said stop
 read-after Said words left before after Usage s whole = tt
 read-after Said words left before after ReadFault s whole = tt
 read-after Said words left before after (Found f note) s whole = whole s.0.0
 read-after Said words left before after Memory s whole = tt
 
-pub stop-cut_short : (words : List (List ℕ)) (left rest : Option (List ℕ)) (before after status : ℕ) (stop : Stop Finding) (old new : Option (List ℕ)) (nb na : ℕ) → StopsFor words left before after stop
+pub stop-cut_short : (words : List (List ℕ)) (left rest : Option (List ℕ)) (before after status : ℕ) (stop : ProgramStop CheckFinding) (old new : Option (List ℕ)) (nb na : ℕ) → StopsFor words left before after stop
     → (AsksCheck words → AfterReading (IsInputTaken left rest) stop) → NotedStop status stop old new nb na
     → status ≡ 4 → HasRisen nb na × IsNoteCutShort words left rest before after old new
 stop-cut_short words left rest before after status stop old new nb na s whole e four =
@@ -104,7 +104,7 @@ told-cut_short words left rest text status old new ob oa told whole e four =
 
 -- ---- a status that findings alone have
 
-pub stop-noted : (words : List (List ℕ)) (left : Option (List ℕ)) (before after status n : ℕ) (stop : Stop Finding) (old new : Option (List ℕ)) (nb na : ℕ) → StopsFor words left before after stop → NotedStop status stop old new nb na
+pub stop-noted : (words : List (List ℕ)) (left : Option (List ℕ)) (before after status n : ℕ) (stop : ProgramStop CheckFinding) (old new : Option (List ℕ)) (nb na : ℕ) → StopsFor words left before after stop → NotedStop status stop old new nb na
     → status ≡ n → n ≢ 3 → n ≢ 4 → n ≢ 5 → n ≢ 64 → IsNoted words left n old new
 stop-noted words left before after status n stop old new nb na s e is three four five usage =
     let found = noted-finding (AsksCheck words → ⊥) (AsksCheck words) (AsksCheck words) before after verdict_of finding_line (IsFoundBy words left) stop old new nb na status n s e is three four five usage in
@@ -120,7 +120,7 @@ not-read status n e zero one two seven (inr (inr (inl a))) = two (sym e ∙ a)
 not-read status n e zero one two seven (inr (inr (inr (inl a)))) = seven (sym e ∙ a)
 not-read status n e zero one two seven (inr (inr (inr (inr none)))) = absurd none
 
-pub stop-taken : (Said : Type 0) (status : ℕ) (stop : Stop Finding) (old new : Option (List ℕ)) (nb na : ℕ) → AfterReading Said stop → NotedStop status stop old new nb na → IsOneOf (0 ∷ 1 ∷ 2 ∷ 7 ∷ []) status → Said
+pub stop-taken : (Said : Type 0) (status : ℕ) (stop : ProgramStop CheckFinding) (old new : Option (List ℕ)) (nb na : ℕ) → AfterReading Said stop → NotedStop status stop old new nb na → IsOneOf (0 ∷ 1 ∷ 2 ∷ 7 ∷ []) status → Said
 stop-taken Said status stop old new nb na said e one =
     noted-after Said verdict_of stop old new nb na status said e
     (λ is. not-read status 3 is (λ a. cc a) (λ a. cc a) (λ a. cc a) (λ a. cc a) one)

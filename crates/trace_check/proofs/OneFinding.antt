@@ -17,9 +17,9 @@ use Rattle.host_scripts.specs.Scripts as scripts
 use Rattle.host_scripts.proofs.OneRefusal.{one-refusal}
 use Rattle.outer_io.specs.Outside.{input_limit}
 use Rattle.stripe_check.proofs.Journals.{read_more}
-use Rattle.trace_check.specs.declared.checking.findings.Finding.{Finding}
-use Rattle.trace_check.specs.declared.checking.findings.Finding.TheVariants.{TooLong, Refused, Over, TextLine, RunEntry, Unasked, ReportLine}
-use Rattle.trace_check.specs.Faults.{MayNotFollow, IsFirstFault}
+use Rattle.trace_check.specs.declared.checking.findings.CheckFinding.{CheckFinding}
+use Rattle.trace_check.specs.declared.checking.findings.CheckFinding.TheVariants.{TooLong, Refused, Over, TextLine, RunEntry, Unasked, ReportLine}
+use Rattle.run_check.specs.Faults.{MayNotFollow, IsFirstFault}
 use Rattle.trace_check.specs.Findings.{line_ends, IsFoundOf, IsFoundFor, IsFoundIn, IsFoundAt, IsFound}
 use Rattle.trace_check.specs.Inputs.{Parts, parts_of}
 use Rattle.trace_check.proofs.Accepted.{one-script}
@@ -53,7 +53,7 @@ one-entry s journal m n (a, (e, f)) (b, (h, g)) = e ∙ ap (λ k. k + 1) (one-co
 
 -- ---- a journal with its report
 
-one-of : (script : Script) (journal : List Entry) (report : List ℕ) (f g : Finding) → IsFoundOf script journal report f → IsFoundOf script journal report g → f ≡ g
+one-of : (script : Script) (journal : List Entry) (report : List ℕ) (f g : CheckFinding) → IsFoundOf script journal report f → IsFoundOf script journal report g → f ≡ g
 one-of script journal report TooLong g x y = absurd x
 one-of script journal report (Refused n cause) g x y = absurd x
 one-of script journal report (Over limit) g x y = absurd x
@@ -72,7 +72,7 @@ one-of script journal report (ReportLine m) (RunEntry n) x y = absurd (y.no_run 
 one-of script journal report (ReportLine m) Unasked x y = absurd (y.1 x.asked)
 one-of script journal report (ReportLine m) (ReportLine n) x y = ap (λ k. ReportLine k) (x.first ∙ sym y.first)
 
-one-for : (parts : Parts) (f g : Finding) → IsFoundFor parts f → IsFoundFor parts g → f ≡ g
+one-for : (parts : Parts) (f g : CheckFinding) → IsFoundFor parts f → IsFoundFor parts g → f ≡ g
 one-for parts f g (s, (j, (has, x))) (t, (k, (got, y))) =
     let P : Script → Type 0 = λ script. IsFoundOf script j parts.report f in
     let Q : List Entry → Type 0 = λ journal. IsFoundOf t journal parts.report f in
@@ -80,10 +80,10 @@ one-for parts f g (s, (j, (has, x))) (t, (k, (got, y))) =
 
 -- ---- the parts of an input, by the first of two findings
 
-over-within : (bytes : List ℕ) (limit : Limit) (s t : Script) → scripts.Spells bytes s → limit_of s ≡ Some limit → scripts.Spells bytes t → limit_of t ≡ None → ⊥
+over-within : (bytes : List ℕ) (limit : Limit) (s t : Script) → scripts.SpellsScript bytes s → limit_of s ≡ Some limit → scripts.SpellsScript bytes t → limit_of t ≡ None → ⊥
 over-within bytes limit s t x over y within = none-some limit (sym within ∙ ap (λ script. limit_of script) (one-script bytes t s y x) ∙ over)
 
-refused-one : (parts : Parts) (n : ℕ) (cause : Cause) → IsRefusal parts.script n cause → (g : Finding) → IsFoundIn parts g → Refused n cause ≡ g
+refused-one : (parts : Parts) (n : ℕ) (cause : Cause) → IsRefusal parts.script n cause → (g : CheckFinding) → IsFoundIn parts g → Refused n cause ≡ g
 refused-one parts n cause x TooLong y = absurd y
 refused-one parts n cause x (Refused m other) y =
     let same = one-refusal parts.script n m cause other x y in
@@ -94,7 +94,7 @@ refused-one parts n cause x (RunEntry m) (s, (j, (has, y))) = absurd (x.unspelt 
 refused-one parts n cause x Unasked (s, (j, (has, y))) = absurd (x.unspelt s has.spelt)
 refused-one parts n cause x (ReportLine m) (s, (j, (has, y))) = absurd (x.unspelt s has.spelt)
 
-over-one : (parts : Parts) (limit : Limit) → IsFoundIn parts (Over limit) → (g : Finding) → IsFoundIn parts g → Over limit ≡ g
+over-one : (parts : Parts) (limit : Limit) → IsFoundIn parts (Over limit) → (g : CheckFinding) → IsFoundIn parts g → Over limit ≡ g
 over-one parts limit x TooLong y = absurd y
 over-one parts limit x (Refused m cause) y = sym (refused-one parts m cause y (Over limit) x)
 over-one parts limit (s, (spelt, over)) (Over other) (t, (told, passed)) =
@@ -104,7 +104,7 @@ over-one parts limit (s, (spelt, over)) (RunEntry m) (t, (j, (has, y))) = absurd
 over-one parts limit (s, (spelt, over)) Unasked (t, (j, (has, y))) = absurd (over-within parts.script limit s t spelt over has.spelt has.within)
 over-one parts limit (s, (spelt, over)) (ReportLine m) (t, (j, (has, y))) = absurd (over-within parts.script limit s t spelt over has.spelt has.within)
 
-text-one : (parts : Parts) (n : ℕ) → IsFoundIn parts (TextLine n) → (g : Finding) → IsFoundIn parts g → TextLine n ≡ g
+text-one : (parts : Parts) (n : ℕ) → IsFoundIn parts (TextLine n) → (g : CheckFinding) → IsFoundIn parts g → TextLine n ≡ g
 text-one parts n x TooLong y = absurd y
 text-one parts n x (Refused m cause) y = sym (refused-one parts m cause y (TextLine n) x)
 text-one parts n x (Over limit) y = sym (over-one parts limit y (TextLine n) x)
@@ -114,7 +114,7 @@ text-one parts n (s, (line, x)) (RunEntry m) (t, (j, (has, y))) = absurd (no-fau
 text-one parts n (s, (line, x)) Unasked (t, (j, (has, y))) = absurd (no-fault parts.trace line j x.first has.traced)
 text-one parts n (s, (line, x)) (ReportLine m) (t, (j, (has, y))) = absurd (no-fault parts.trace line j x.first has.traced)
 
-journal-one : (parts : Parts) (f : Finding) → IsFoundIn parts f → IsFoundFor parts f → (g : Finding) → IsFoundIn parts g → f ≡ g
+journal-one : (parts : Parts) (f : CheckFinding) → IsFoundIn parts f → IsFoundFor parts f → (g : CheckFinding) → IsFoundIn parts g → f ≡ g
 journal-one parts f i x TooLong y = absurd y
 journal-one parts f i x (Refused m cause) y = sym (refused-one parts m cause y f i)
 journal-one parts f i x (Over limit) y = sym (over-one parts limit y f i)
@@ -123,7 +123,7 @@ journal-one parts f i x (RunEntry m) y = one-for parts f (RunEntry m) x y
 journal-one parts f i x Unasked y = one-for parts f Unasked x y
 journal-one parts f i x (ReportLine m) y = one-for parts f (ReportLine m) x y
 
-one-in : (parts : Parts) (f g : Finding) → IsFoundIn parts f → IsFoundIn parts g → f ≡ g
+one-in : (parts : Parts) (f g : CheckFinding) → IsFoundIn parts f → IsFoundIn parts g → f ≡ g
 one-in parts TooLong g x y = absurd x
 one-in parts (Refused n cause) g x y = refused-one parts n cause x g y
 one-in parts (Over limit) g x y = over-one parts limit x g y
@@ -137,7 +137,7 @@ one-in parts (ReportLine n) g x y = journal-one parts (ReportLine n) x x g y
 form-one : (n m : ℕ) (cause other : Cause) → IsFoundAt None (Refused n cause) → IsFoundAt None (Refused m other) → Refused n cause ≡ Refused m other
 form-one n m cause other x y = ap (λ k. Refused k cause) (x.0 ∙ sym y.0) ∙ ap (λ c. Refused m c) (x.1 ∙ sym y.1)
 
-one-at : (o : Option Parts) (f g : Finding) → IsFoundAt o f → IsFoundAt o g → f ≡ g
+one-at : (o : Option Parts) (f g : CheckFinding) → IsFoundAt o f → IsFoundAt o g → f ≡ g
 one-at (Some parts) f g x y = one-in parts f g x y
 one-at None TooLong g x y = absurd x
 one-at None (Over limit) g x y = absurd x
@@ -154,10 +154,10 @@ one-at None (Refused n cause) (ReportLine m) x y = absurd y
 one-at None (Refused n cause) (Refused m other) x y = form-one n m cause other x y
 
 -- what is found of an input that isn't too long
-abbrev IsShort : List ℕ → Finding → Type 0
+abbrev IsShort : List ℕ → CheckFinding → Type 0
 IsShort input f = (length input ≤ input_limit) × IsFoundAt (parts_of input) f
 
-long-or-short : (input : List ℕ) (f : Finding) → IsFound input f → ((f ≡ TooLong) × (input_limit < length input)) ⊎ IsShort input f
+long-or-short : (input : List ℕ) (f : CheckFinding) → IsFound input f → ((f ≡ TooLong) × (input_limit < length input)) ⊎ IsShort input f
 long-or-short input TooLong x = inl (refl, x)
 long-or-short input (Refused n cause) x = inr x
 long-or-short input (Over limit) x = inr x
@@ -166,7 +166,7 @@ long-or-short input (RunEntry n) x = inr x
 long-or-short input Unasked x = inr x
 long-or-short input (ReportLine n) x = inr x
 
-pub one-finding : (input : List ℕ) (f g : Finding) → IsFound input f → IsFound input g → f ≡ g
+pub one-finding : (input : List ℕ) (f g : CheckFinding) → IsFound input f → IsFound input g → f ≡ g
 one-finding input f g x y = by-length (long-or-short input f x) (long-or-short input g y)
   where
     by-length : ((f ≡ TooLong) × (input_limit < length input)) ⊎ IsShort input f → ((g ≡ TooLong) × (input_limit < length input)) ⊎ IsShort input g → f ≡ g

@@ -18,11 +18,14 @@ use Rattle.host_scripts.specs.declared.script.Script.{Script}
 use Rattle.host_scripts.specs.declared.script.Call.{Call}
 use Rattle.host_scripts.specs.declared.script.Action.{Action}
 use Rattle.host_scripts.specs.declared.script.Action.TheVariants.{Read, Write, Fill, Raw, Lose, Reset, DropNext, Replace, Rebuild, Resync}
+use Rattle.stripe_layout.specs.declared.areas.Area.{Area}
 use Rattle.stripe_layout.specs.declared.geometry.Geometry.{Geometry}
+use Rattle.stripe_layout.specs.Layout.{stripes_of}
 use Rattle.text_fields.specs.Spelling.{line, numeral, nibble, hex, upper_nibble, upper_byte, counted}
-use Rattle.host_scripts.specs.Scripts.{letter, mode_text, maxima_text, call_text, order_texts, script_lines, spelling, IsScript, IsCall}
+use Rattle.host_scripts.specs.Scripts.{letter, mode_text, maxima_text, call_text, order_texts, version_text, area_text, single_texts, several_texts, start_texts, script_lines, spelling, IsScript, IsCall}
 use Rattle.text_fields.specs.Laws.{lacks}
 use Rattle.text_fields.proofs.Cuts.{lacks-append}
+use Rattle.text_fields.proofs.NumeralLaws.{numeral-lacks}
 use Rattle.host_scripts.proofs.Texts.{number_rule, maxima_rule, mode_rule, order_rule}
 use Rattle.host_scripts.proofs.CallTexts.{call_rule}
 use Rattle.host_scripts.proofs.Again.{kept-ranged}
@@ -32,64 +35,65 @@ use Rattle.stripe_check.specs.declared.check.Failure.{Failure}
 use Rattle.stripe_check.specs.Tallies.{tally_of}
 use Rattle.stripe_check.specs.Replies.{byte_text, check_text, good_text, host_text, failure_check, replaced_text, tally_text, reply_text, read_error, write_error, cdb_error, reply_line, reply_lines, bytes_read, failure_of}
 use Rattle.stripe_check.specs.Sums.{stripes_that, has_absent, is_balanced, absent_units}
-use Rattle.stripe_check.specs.Reports.{setting_of, entries_line, stripes_line, dirty_text, dirty_line, absent_text, absent_line, summary_of, report_of}
+use Rattle.host_requests.specs.Settings.{setting_of}
+use Rattle.stripe_check.specs.Reports.{entries_line, stripes_line, dirty_text, dirty_line, absent_text, absent_line, summary_of, report_of}
 use Rattle.journal_text.specs.Traces.{field, event_text, entry_line, trace_of}
-use Rattle.trace_check.specs.declared.checking.parting.Mark.{Mark}
-use Rattle.trace_check.specs.declared.checking.parting.Mark.TheVariants as marks
-use Rattle.trace_check.specs.Inputs.{Parts, parts_of, parts_in, marked, place_from, place_or, behind_stripes, trace_place, output_line}
+use Rattle.trace_check.specs.declared.checking.parting.LineStart.{LineStart}
+use Rattle.trace_check.specs.declared.checking.parting.LineStart.TheVariants as starts
+use Rattle.trace_check.specs.Inputs.{Parts, parts_of, parts_in, starts_line, place_from, place_or, behind_stripes, trace_place, output_line}
 use Rattle.trace_check.specs.Laws.{printed}
 use Rattle.text_fields.specs.Reading.{stripped, ◌>>=◌}
 use Rattle.text_fields.proofs.Cuts.{stripped-again}
 
--- ---- texts without the mark
+-- ---- texts without the start
 
--- no line that begins in the text is marked, and the next begins behind it
-abbrev Passes : Mark → List ℕ → Type 0
-Passes mark text = (place : ℕ) (rest : List ℕ) → place_from mark place true (text ++ rest) ≡ place_from mark (place + length text) true rest
+-- no line that begins in the text is starts_line, and the next begins behind it
+abbrev Passes : LineStart → List ℕ → Type 0
+Passes start text = (place : ℕ) (rest : List ℕ) → place_from start place true (text ++ rest) ≡ place_from start (place + length text) true rest
 
-at-place : (mark : Mark) (rest : List ℕ) (p q : ℕ) → p ≡ q → place_from mark p true rest ≡ place_from mark q true rest
-at-place mark rest p q e = ap (λ (k : ℕ). place_from mark k true rest) e
+at-place : (start : LineStart) (rest : List ℕ) (p q : ℕ) → p ≡ q → place_from start p true rest ≡ place_from start q true rest
+at-place start rest p q e = ap (λ (k : ℕ). place_from start k true rest) e
 
-none-passes : (mark : Mark) → Passes mark []
-none-passes mark place rest = at-place mark rest place (place + 0) (omega arith)
+none-passes : (start : LineStart) → Passes start []
+none-passes start place rest = at-place start rest place (place + 0) (omega arith)
 
-both-pass : (mark : Mark) (a b : List ℕ) → Passes mark a → Passes mark b → Passes mark (a ++ b)
-both-pass mark a b f g place rest =
+both-pass : (start : LineStart) (a b : List ℕ) → Passes start a → Passes start b → Passes start (a ++ b)
+both-pass start a b f g place rest =
     let len : length (a ++ b) ≡ length a + length b = length-append a b in
-    ap (λ (t : List ℕ). place_from mark place true t) (append_assoc a b rest)
-    ∙ f place (b ++ rest) ∙ g (place + length a) rest ∙ at-place mark rest (place + length a + length b) (place + length (a ++ b)) (omega (arith, len))
+    ap (λ (t : List ℕ). place_from start place true t) (append_assoc a b rest)
+    ∙ f place (b ++ rest) ∙ g (place + length a) rest ∙ at-place start rest (place + length a + length b) (place + length (a ++ b)) (omega (arith, len))
 
-each-passes : {A : Type 0} (mark : Mark) (text : A → List ℕ) (xs : List A) → ((x : A) → Passes mark (text x)) → Passes mark (flat_map text xs)
-each-passes mark text [] h = none-passes mark
-each-passes mark text (x ∷ xs) h = both-pass mark (text x) (flat_map text xs) (h x) (each-passes mark text xs h)
+each-passes : {A : Type 0} (start : LineStart) (text : A → List ℕ) (xs : List A) → ((x : A) → Passes start (text x)) → Passes start (flat_map text xs)
+each-passes start text [] h = none-passes start
+each-passes start text (x ∷ xs) h = both-pass start (text x) (flat_map text xs) (h x) (each-passes start text xs h)
 
 not-true : (b : Bool) → not b ≡ true → b ≡ false
 not-true true h = absurd cc
 not-true false h = refl
 
 -- behind the front of a line
-within : (mark : Mark) (text rest : List ℕ) (place : ℕ) → lacks 10 text ≡ true → place_from mark place false (text ++ 10 ∷ rest) ≡ place_from mark (place + length text + 1) true rest
-within mark [] rest place h = at-place mark rest (place + 1) (place + 0 + 1) (omega arith)
-within mark (b ∷ text) rest place h =
+within : (start : LineStart) (text rest : List ℕ) (place : ℕ) → lacks 10 text ≡ true → place_from start place false (text ++ 10 ∷ rest) ≡ place_from start (place + length text + 1) true rest
+within start [] rest place h = at-place start rest (place + 1) (place + 0 + 1) (omega arith)
+within start (b ∷ text) rest place h =
     let p = and_parts (not (b == 10)) (lacks 10 text) h in
-    ap (λ (s : Bool). place_from mark (place + 1) s (text ++ 10 ∷ rest)) (not-true (b == 10) p.0)
-    ∙ within mark text rest (place + 1) p.1
-    ∙ at-place mark rest (place + 1 + length text + 1) (place + suc (length text) + 1) (omega arith)
+    ap (λ (s : Bool). place_from start (place + 1) s (text ++ 10 ∷ rest)) (not-true (b == 10) p.0)
+    ∙ within start text rest (place + 1) p.1
+    ∙ at-place start rest (place + 1 + length text + 1) (place + suc (length text) + 1) (omega arith)
 
 -- the rest of a line that has begun
-line-goes : (mark : Mark) (text rest : List ℕ) (place : ℕ) → lacks 10 text ≡ true → place_from mark place false (line text ++ rest) ≡ place_from mark (place + length (line text)) true rest
-line-goes mark text rest place h =
+line-goes : (start : LineStart) (text rest : List ℕ) (place : ℕ) → lacks 10 text ≡ true → place_from start place false (line text ++ rest) ≡ place_from start (place + length (line text)) true rest
+line-goes start text rest place h =
     let len : length (line text) ≡ length text + 1 = length-append text (10 ∷ []) in
-    ap (λ (t : List ℕ). place_from mark place false t) (append_assoc text (10 ∷ []) rest)
-    ∙ within mark text rest place h
-    ∙ at-place mark rest (place + length text + 1) (place + length (line text)) (omega (arith, len))
+    ap (λ (t : List ℕ). place_from start place false t) (append_assoc text (10 ∷ []) rest)
+    ∙ within start text rest place h
+    ∙ at-place start rest (place + length text + 1) (place + length (line text)) (omega (arith, len))
 
-step : (mark : Mark) (place b : ℕ) (bytes : List ℕ) → marked mark (b ∷ bytes) ≡ false → place_from mark place true (b ∷ bytes) ≡ place_from mark place false (b ∷ bytes)
-step mark place b bytes h = ap (λ (s : Bool). cond s (Some place) (place_from mark (place + 1) (b == 10) bytes)) h
+step : (start : LineStart) (place b : ℕ) (bytes : List ℕ) → starts_line start (b ∷ bytes) ≡ false → place_from start place true (b ∷ bytes) ≡ place_from start place false (b ∷ bytes)
+step start place b bytes h = ap (λ (s : Bool). cond s (Some place) (place_from start (place + 1) (b == 10) bytes)) h
 
-line-passes : (mark : Mark) (text : List ℕ) → lacks 10 text ≡ true → ((rest : List ℕ) → marked mark (line text ++ rest) ≡ false) → Passes mark (line text)
-line-passes mark [] h m place rest = step mark place 10 rest (m rest) ∙ line-goes mark [] rest place h
-line-passes mark (c ∷ text) h m place rest = step mark place c ((text ++ 10 ∷ []) ++ rest) (m rest) ∙ line-goes mark (c ∷ text) rest place h
+line-passes : (start : LineStart) (text : List ℕ) → lacks 10 text ≡ true → ((rest : List ℕ) → starts_line start (line text ++ rest) ≡ false) → Passes start (line text)
+line-passes start [] h m place rest = step start place 10 rest (m rest) ∙ line-goes start [] rest place h
+line-passes start (c ∷ text) h m place rest = step start place c ((text ++ 10 ∷ []) ++ rest) (m rest) ∙ line-goes start (c ∷ text) rest place h
 
 -- ---- numbers
 
@@ -147,7 +151,7 @@ decimal-leads n =
     let one = glyph-digit n in
     pick-leads (n / 10 == 0) (digit_glyph false (n % 10) ∷ []) (digits_onto 63 10 false (n / 10) (digit_glyph false (n % 10) ∷ [])) one (onto-leads 63 (n / 10) (digit_glyph false (n % 10) ∷ []) one)
 
-digit-no-stripes : (bytes : List ℕ) → leads bytes ≡ true → marked marks.Stripes bytes ≡ false
+digit-no-stripes : (bytes : List ℕ) → leads bytes ≡ true → starts_line starts.Stripes bytes ≡ false
 digit-no-stripes [] h = absurd cc
 digit-no-stripes (c ∷ bytes) h =
     let p = and_parts (nat_lt 47 c) (nat_lt c 58) h in
@@ -155,7 +159,7 @@ digit-no-stripes (c ∷ bytes) h =
     let other : (115 == c) ≡ false = ne_eqb 115 c (λ e. omega (arith, lt, e)) in
     rw other refl
 
-digit-is-trace : (bytes : List ℕ) → leads bytes ≡ true → marked marks.Trace bytes ≡ true
+digit-is-trace : (bytes : List ℕ) → leads bytes ≡ true → starts_line starts.Trace bytes ≡ true
 digit-is-trace [] h = absurd cc
 digit-is-trace (c ∷ bytes) h =
     let p = and_parts (nat_lt 47 c) (nat_lt c 58) h in
@@ -166,73 +170,98 @@ digit-is-trace (c ∷ bytes) h =
 
 -- ---- the script
 
-number-passes : (keyword : List ℕ) (n : ℕ) → lacks 10 keyword ≡ true → ((rest : List ℕ) → marked marks.Output (line (keyword ++ numeral n) ++ rest) ≡ false) → Passes marks.Output (line (keyword ++ numeral n))
-number-passes keyword n clean m = line-passes marks.Output (keyword ++ numeral n) ((number_rule keyword clean).clean n tt) m
+number-passes : (keyword : List ℕ) (n : ℕ) → lacks 10 keyword ≡ true → ((rest : List ℕ) → starts_line starts.Output (line (keyword ++ numeral n) ++ rest) ≡ false) → Passes starts.Output (line (keyword ++ numeral n))
+number-passes keyword n clean m = line-passes starts.Output (keyword ++ numeral n) ((number_rule keyword clean).clean n tt) m
 
-maxima-passes : (m : List ℕ) → length m ≡ 3 → Passes marks.Output (line (maxima_text (get_or m 0 0) (get_or m 1 0) (get_or m 2 0)))
-maxima-passes m three = line-passes marks.Output (maxima_text (get_or m 0 0) (get_or m 1 0) (get_or m 2 0)) (maxima_rule.clean m three) (λ rest. refl)
+maxima-passes : (m : List ℕ) → length m ≡ 3 → Passes starts.Output (line (maxima_text (get_or m 0 0) (get_or m 1 0) (get_or m 2 0)))
+maxima-passes m three = line-passes starts.Output (maxima_text (get_or m 0 0) (get_or m 1 0) (get_or m 2 0)) (maxima_rule.clean m three) (λ rest. refl)
 
-mode-passes : (mode : Mode) → Passes marks.Output (line (mode_text mode))
-mode-passes mode = line-passes marks.Output (mode_text mode) (mode_rule.clean mode tt) (unmarked mode)
+mode-passes : (mode : Mode) → Passes starts.Output (line (mode_text mode))
+mode-passes mode = line-passes starts.Output (mode_text mode) (mode_rule.clean mode tt) (unmarked mode)
   where
-    unmarked : (m : Mode) (rest : List ℕ) → marked marks.Output (line (mode_text m) ++ rest) ≡ false
+    unmarked : (m : Mode) (rest : List ℕ) → starts_line starts.Output (line (mode_text m) ++ rest) ≡ false
     unmarked Supervised rest = refl
     unmarked ThirdParty rest = refl
     unmarked Readback rest = refl
 
-call-passes : (s : Script) (call : Call) → s.hosts ≤ 26 → s.geometry.targets ≤ 16 → IsCall s call → Passes marks.Output (line (call_text call))
+call-passes : (s : Script) (call : Call) → s.hosts ≤ 26 → s.geometry.targets ≤ 32 → IsCall s call → Passes starts.Output (line (call_text call))
 call-passes s call hosts targets h =
     let lt : call.host < 26 = omega (arith, h.0, hosts) in
     let formed = (kept-ranged s.geometry call.action targets h.1).0 in
     let other : (111 == (65 + call.host)) ≡ false = ne_eqb 111 (65 + call.host) (λ e. omega (arith, lt, e)) in
-    line-passes marks.Output (call_text call) (call_rule.clean call (lt, formed)) (λ rest. rw other refl)
+    line-passes starts.Output (call_text call) (call_rule.clean call (lt, formed)) (λ rest. rw other refl)
 
-calls-pass : (s : Script) (calls : List Call) → s.hosts ≤ 26 → s.geometry.targets ≤ 16 → AllByRecursion (IsCall s) calls → Passes marks.Output (flat_map line (map call_text calls))
-calls-pass s [] hosts targets h = none-passes marks.Output
+calls-pass : (s : Script) (calls : List Call) → s.hosts ≤ 26 → s.geometry.targets ≤ 32 → AllByRecursion (IsCall s) calls → Passes starts.Output (flat_map line (map call_text calls))
+calls-pass s [] hosts targets h = none-passes starts.Output
 calls-pass s (call ∷ calls) hosts targets h =
-    both-pass marks.Output (line (call_text call)) (flat_map line (map call_text calls)) (call-passes s call hosts targets h.0) (calls-pass s calls hosts targets h.1)
+    both-pass starts.Output (line (call_text call)) (flat_map line (map call_text calls)) (call-passes s call hosts targets h.0) (calls-pass s calls hosts targets h.1)
 
 below-26 : (hosts : ℕ) (order : List ℕ) → hosts ≤ 26 → AllByRecursion (λ h. h < hosts) order → AllByRecursion (λ h. h < 26) order
 below-26 hosts [] le all = tt
 below-26 hosts (h ∷ order) le all = let lt : h < 26 = omega (arith, all.0, le) in (lt, below-26 hosts order le all.1)
 
-order-passes : (s : Script) (order : List ℕ) (calls : List (List ℕ)) → s.hosts ≤ 26 → AllByRecursion (λ h. h < s.hosts) order → Passes marks.Output (flat_map line calls) → Passes marks.Output (flat_map line (order_texts order ++ calls))
+order-passes : (s : Script) (order : List ℕ) (calls : List (List ℕ)) → s.hosts ≤ 26 → AllByRecursion (λ h. h < s.hosts) order → Passes starts.Output (flat_map line calls) → Passes starts.Output (flat_map line (order_texts order ++ calls))
 order-passes s [] calls hosts h p = p
 order-passes s (first ∷ order) calls hosts h p =
     let some : 1 ≤ length (first ∷ order) = omega arith in
     let clean = order_rule.clean (first ∷ order) (some, below-26 s.hosts (first ∷ order) hosts h) in
-    both-pass marks.Output (line (codes "order " ++ map letter (first ∷ order))) (flat_map line calls) (line-passes marks.Output (codes "order " ++ map letter (first ∷ order)) clean (λ rest. refl)) p
+    both-pass starts.Output (line (codes "order " ++ map letter (first ∷ order))) (flat_map line calls) (line-passes starts.Output (codes "order " ++ map letter (first ∷ order)) clean (λ rest. refl)) p
 
--- no line of these is marked
+-- no line of these is starts_line
 record LinesPass (lines : List (List ℕ)) : Type 0 where
-  pub pass : Passes marks.Output (flat_map line lines)
+  pub pass : Passes starts.Output (flat_map line lines)
 
-front-passes : (text : List ℕ) (lines : List (List ℕ)) → Passes marks.Output (line text) → LinesPass lines → LinesPass (text ∷ lines)
-front-passes text lines h k = record { pass = both-pass marks.Output (line text) (flat_map line lines) h k.pass }
+front-passes : (text : List ℕ) (lines : List (List ℕ)) → Passes starts.Output (line text) → LinesPass lines → LinesPass (text ∷ lines)
+front-passes text lines h k = record { pass = both-pass starts.Output (line text) (flat_map line lines) h k.pass }
 
-spelling-passes : (s : Script) → IsScript s → Passes marks.Output (spelling s)
+version-passes : (two : Bool) → Passes starts.Output (line (cond two (codes "xorscript 2") (codes "xorscript 1")))
+version-passes true = line-passes starts.Output (codes "xorscript 2") refl (λ rest. refl)
+version-passes false = line-passes starts.Output (codes "xorscript 1") refl (λ rest. refl)
+
+area-passes : (a : Area) → Passes starts.Output (line (area_text a))
+area-passes a =
+    let numbers = lacks-append 10 (numeral a.unit) (32 ∷ numeral a.stripes) (numeral-lacks 10 a.unit (omega arith)) (numeral-lacks 10 a.stripes (omega arith)) in
+    line-passes starts.Output (area_text a) (lacks-append 10 (codes "area ") (numeral a.unit ++ 32 ∷ numeral a.stripes) refl numbers) (λ rest. refl)
+
+each-area-passes : (areas : List Area) (lines : List (List ℕ)) → LinesPass lines → LinesPass (map area_text areas ++ lines)
+each-area-passes [] lines p = p
+each-area-passes (a ∷ more) lines p = front-passes (area_text a) (map area_text more ++ lines) (area-passes a) (each-area-passes more lines p)
+
+single-passes : (areas : List Area) (lines : List (List ℕ)) → LinesPass lines → LinesPass (single_texts areas ++ lines)
+single-passes [] lines p = p
+single-passes (a ∷ more) lines p =
+    front-passes (codes "unit " ++ numeral a.unit) _ (number-passes (codes "unit ") a.unit refl (λ rest. refl))
+    (front-passes (codes "stripes " ++ numeral a.stripes) lines (number-passes (codes "stripes ") a.stripes refl (λ rest. refl)) p)
+
+areas-pass : (two : Bool) (areas : List Area) (lines : List (List ℕ)) → LinesPass lines → LinesPass (cond two (several_texts areas) (single_texts areas) ++ lines)
+areas-pass true areas lines p =
+    front-passes (codes "areas " ++ numeral (length areas)) (map area_text areas ++ lines) (number-passes (codes "areas ") (length areas) refl (λ rest. refl))
+    (each-area-passes areas lines p)
+areas-pass false areas lines p = single-passes areas lines p
+
+spelling-passes : (s : Script) → IsScript s → Passes starts.Output (spelling s)
 unfolding spelling
 spelling-passes s h =
     let behind : LinesPass (order_texts s.order ++ map call_text s.calls) = record { pass = order-passes s s.order (map call_text s.calls) h.most_hosts h.order (calls-pass s s.calls h.most_hosts h.geometry.most_targets h.calls) } in
-    let all : LinesPass (script_lines s) =
-    front-passes (codes "xorscript 1") _ (line-passes marks.Output (codes "xorscript 1") refl (λ rest. refl))
-    (front-passes (codes "targets " ++ numeral s.geometry.targets) _ (number-passes (codes "targets ") s.geometry.targets refl (λ rest. refl))
-    (front-passes (codes "block " ++ numeral s.geometry.block) _ (number-passes (codes "block ") s.geometry.block refl (λ rest. refl))
-    (front-passes (codes "unit " ++ numeral s.geometry.unit) _ (number-passes (codes "unit ") s.geometry.unit refl (λ rest. refl))
-    (front-passes (codes "stripes " ++ numeral s.geometry.stripes) _ (number-passes (codes "stripes ") s.geometry.stripes refl (λ rest. refl))
-    (front-passes (codes "buffer " ++ numeral s.buffer) _ (number-passes (codes "buffer ") s.buffer refl (λ rest. refl))
+    let start : LinesPass (start_texts s ++ (order_texts s.order ++ map call_text s.calls)) =
+    front-passes (codes "buffer " ++ numeral s.buffer) _ (number-passes (codes "buffer ") s.buffer refl (λ rest. refl))
     (front-passes (maxima_text (get_or s.maxima 0 0) (get_or s.maxima 1 0) (get_or s.maxima 2 0)) _ (maxima-passes s.maxima h.maxima)
     (front-passes (mode_text s.mode) _ (mode-passes s.mode)
     (front-passes (codes "seed " ++ numeral s.seed) _ (number-passes (codes "seed ") s.seed refl (λ rest. refl))
-    (front-passes (codes "hosts " ++ numeral s.hosts) _ (number-passes (codes "hosts ") s.hosts refl (λ rest. refl)) behind))))))))) in
+    (front-passes (codes "hosts " ++ numeral s.hosts) _ (number-passes (codes "hosts ") s.hosts refl (λ rest. refl)) behind)))) in
+    let all : LinesPass (script_lines s) =
+    front-passes (version_text s.version) _ (version-passes (s.version == 2))
+    (front-passes (codes "targets " ++ numeral s.geometry.targets) _ (number-passes (codes "targets ") s.geometry.targets refl (λ rest. refl))
+    (front-passes (codes "block " ++ numeral s.geometry.block) _ (number-passes (codes "block ") s.geometry.block refl (λ rest. refl))
+    (areas-pass (s.version == 2) s.geometry.areas _ start))) in
     all.pass
 
-script-found : (s : Script) (rest : List ℕ) → IsScript s → place_from marks.Output 0 true (spelling s ++ (output_line ++ rest)) ≡ Some (length (spelling s))
+script-found : (s : Script) (rest : List ℕ) → IsScript s → place_from starts.Output 0 true (spelling s ++ (output_line ++ rest)) ≡ Some (length (spelling s))
 script-found s rest h =
     let p : 0 + length (spelling s) ≡ length (spelling s) = omega arith in
     spelling-passes s h 0 (output_line ++ rest) ∙ found (0 + length (spelling s)) ∙ ap (λ (k : ℕ). Some k) p
   where
-    found : (place : ℕ) → place_from marks.Output place true (output_line ++ rest) ≡ Some place
+    found : (place : ℕ) → place_from starts.Output place true (output_line ++ rest) ≡ Some place
     found place = refl
 
 -- ---- replies
@@ -294,9 +323,9 @@ reply-lacks (Rebuild target) bytes failure tally = tally-lacks tally
 reply-lacks Resync bytes failure tally = tally-lacks tally
 
 -- a line that begins with a number
-numbered-passes : (n : ℕ) (text : List ℕ) → lacks 10 text ≡ true → Passes marks.Stripes (line (decimal n ++ text))
+numbered-passes : (n : ℕ) (text : List ℕ) → lacks 10 text ≡ true → Passes starts.Stripes (line (decimal n ++ text))
 numbered-passes n text h =
-    line-passes marks.Stripes (decimal n ++ text) (lacks-append 10 (decimal n) text (decimal-lacks n) h)
+    line-passes starts.Stripes (decimal n ++ text) (lacks-append 10 (decimal n) text (decimal-lacks n) h)
     (λ rest. digit-no-stripes (line (decimal n ++ text) ++ rest) (leads-append (line (decimal n ++ text)) rest (leads-append (decimal n ++ text) (10 ∷ []) (leads-append (decimal n) text (decimal-leads n)))))
 
 answer-lacks : (host : ℕ) (text : List ℕ) → lacks 10 text ≡ true → lacks 10 (32 ∷ letter host ∷ 32 ∷ text) ≡ true
@@ -304,45 +333,45 @@ answer-lacks host text h =
     let other : ((65 + host) == 10) ≡ false = ne_eqb (65 + host) 10 (λ e. omega (arith, e)) in
     rw (other, h) refl
 
-replies-pass : (g : Geometry) (past : List Entry) (n : ℕ) (calls : List Call) → Passes marks.Stripes (reply_lines g past n calls)
-replies-pass g past n [] = none-passes marks.Stripes
+replies-pass : (g : Geometry) (past : List Entry) (n : ℕ) (calls : List Call) → Passes starts.Stripes (reply_lines g past n calls)
+replies-pass g past n [] = none-passes starts.Stripes
 replies-pass g past n (call ∷ calls) =
     let text = reply_text call.action (bytes_read g n past) (failure_of n past) (tally_of n past) in
     let one = numbered-passes n (32 ∷ letter call.host ∷ 32 ∷ text) (answer-lacks call.host text (reply-lacks call.action (bytes_read g n past) (failure_of n past) (tally_of n past))) in
-    both-pass marks.Stripes (reply_line g past n call) (reply_lines g past (n + 1) calls) one (replies-pass g past (n + 1) calls)
+    both-pass starts.Stripes (reply_line g past n call) (reply_lines g past (n + 1) calls) one (replies-pass g past (n + 1) calls)
 
-entries-pass : (past : List Entry) → Passes marks.Stripes (entries_line past)
-entries-pass past = line-passes marks.Stripes (counted (codes "entries") (length past) []) (counted-lacks (codes "entries") (length past) [] refl refl) (λ rest. refl)
+entries-pass : (past : List Entry) → Passes starts.Stripes (entries_line past)
+entries-pass past = line-passes starts.Stripes (counted (codes "entries") (length past) []) (counted-lacks (codes "entries") (length past) [] refl refl) (λ rest. refl)
 
 -- ---- the summary
 
-dirty-text-passes : (stripe : ℕ) (task : Option Task) → Passes marks.Trace (dirty_text stripe task)
-dirty-text-passes stripe None = none-passes marks.Trace
+dirty-text-passes : (stripe : ℕ) (task : Option Task) → Passes starts.Trace (dirty_text stripe task)
+dirty-text-passes stripe None = none-passes starts.Trace
 dirty-text-passes stripe (Some task) =
     let last = counted-lacks (codes " piece") task.piece [] refl refl in
     let more = counted-lacks (codes " call") task.call (counted (codes " piece") task.piece []) refl last in
-    line-passes marks.Trace (counted (codes "dirty") stripe (counted (codes " call") task.call (counted (codes " piece") task.piece []))) (counted-lacks (codes "dirty") stripe (counted (codes " call") task.call (counted (codes " piece") task.piece [])) refl more) (λ rest. refl)
+    line-passes starts.Trace (counted (codes "dirty") stripe (counted (codes " call") task.call (counted (codes " piece") task.piece []))) (counted-lacks (codes "dirty") stripe (counted (codes " call") task.call (counted (codes " piece") task.piece [])) refl more) (λ rest. refl)
 
-absent-text-passes : (i units : ℕ) → Passes marks.Trace (absent_text i units)
+absent-text-passes : (i units : ℕ) → Passes starts.Trace (absent_text i units)
 absent-text-passes i units = by-test (units == 0)
   where
-    by-test : (b : Bool) → Passes marks.Trace (cond b [] (line (counted (codes "absent") i (counted (codes " units") units []))))
-    by-test true = none-passes marks.Trace
-    by-test false = line-passes marks.Trace (counted (codes "absent") i (counted (codes " units") units [])) (counted-lacks (codes "absent") i (counted (codes " units") units []) refl (counted-lacks (codes " units") units [] refl refl)) (λ rest. refl)
+    by-test : (b : Bool) → Passes starts.Trace (cond b [] (line (counted (codes "absent") i (counted (codes " units") units []))))
+    by-test true = none-passes starts.Trace
+    by-test false = line-passes starts.Trace (counted (codes "absent") i (counted (codes " units") units [])) (counted-lacks (codes "absent") i (counted (codes " units") units []) refl (counted-lacks (codes " units") units [] refl refl)) (λ rest. refl)
 
 -- what a report has behind its count of stripes
 abbrev listed-lines : Setting → List Entry → List ℕ
 listed-lines s past = flat_map (dirty_line past) (dirty s past) ++ flat_map (absent_line s past) (numbers 0 s.geometry.targets)
 
-listed-pass : (s : Setting) (past : List Entry) → Passes marks.Trace (listed-lines s past)
+listed-pass : (s : Setting) (past : List Entry) → Passes starts.Trace (listed-lines s past)
 listed-pass s past =
-    both-pass marks.Trace (flat_map (dirty_line past) (dirty s past)) (flat_map (absent_line s past) (numbers 0 s.geometry.targets))
-    (each-passes marks.Trace (dirty_line past) (dirty s past) (λ d. dirty-text-passes d.stripe (task_of d.command past)))
-    (each-passes marks.Trace (absent_line s past) (numbers 0 s.geometry.targets) (λ i. absent-text-passes i (absent_units s past i)))
+    both-pass starts.Trace (flat_map (dirty_line past) (dirty s past)) (flat_map (absent_line s past) (numbers 0 s.geometry.targets))
+    (each-passes starts.Trace (dirty_line past) (dirty s past) (λ d. dirty-text-passes d.stripe (task_of d.command past)))
+    (each-passes starts.Trace (absent_line s past) (numbers 0 s.geometry.targets) (λ i. absent-text-passes i (absent_units s past i)))
 
 abbrev stripes-text : Setting → List Entry → List ℕ
 stripes-text s past =
-    counted (codes "stripes") s.geometry.stripes
+    counted (codes "stripes") (stripes_of s.geometry)
     (counted (codes " zero") (stripes_that s (is_balanced s past))
     (counted (codes " listed") (length (dirty s past))
     (counted (codes " absent") (stripes_that s (has_absent s past)) [])))
@@ -352,40 +381,40 @@ stripes-lack s past =
     let a = counted-lacks (codes " absent") (stripes_that s (has_absent s past)) [] refl refl in
     let l = counted-lacks (codes " listed") (length (dirty s past)) _ refl a in
     let z = counted-lacks (codes " zero") (stripes_that s (is_balanced s past)) _ refl l in
-    counted-lacks (codes "stripes") s.geometry.stripes _ refl z
+    counted-lacks (codes "stripes") (stripes_of s.geometry) _ refl z
 
-stripes-found : (s : Setting) (past : List Entry) (rest : List ℕ) (place : ℕ) → place_from marks.Stripes place true (stripes_line s past ++ rest) ≡ Some place
+stripes-found : (s : Setting) (past : List Entry) (rest : List ℕ) (place : ℕ) → place_from starts.Stripes place true (stripes_line s past ++ rest) ≡ Some place
 stripes-found s past rest place = refl
 
 -- the trace begins where its first line does, or at the end
-trace-found : (journal : List Entry) (place end : ℕ) → end ≡ place + length (trace_of journal) → place_or end (place_from marks.Trace place true (trace_of journal)) ≡ place
+trace-found : (journal : List Entry) (place end : ℕ) → end ≡ place + length (trace_of journal) → place_or end (place_from starts.Trace place true (trace_of journal)) ≡ place
 unfolding trace_of
 trace-found [] place end e = omega (arith, e)
 trace-found (entry ∷ journal) place end e =
     begun (trace_of (entry ∷ journal)) (leads-append (entry_line entry) (flat_map entry_line journal) (leads-append (decimal entry.stamp ++ (field (decimal entry.lock) ++ field (event_text entry.event))) (10 ∷ []) (leads-append (decimal entry.stamp) (field (decimal entry.lock) ++ field (event_text entry.event)) (decimal-leads entry.stamp))))
   where
-    begun : (bytes : List ℕ) → leads bytes ≡ true → place_or end (place_from marks.Trace place true bytes) ≡ place
+    begun : (bytes : List ℕ) → leads bytes ≡ true → place_or end (place_from starts.Trace place true bytes) ≡ place
     begun [] h = absurd cc
-    begun (b ∷ bytes) h = ap (λ (t : Bool). place_or end (cond t (Some place) (place_from marks.Trace (place + 1) (b == 10) bytes))) (digit-is-trace (b ∷ bytes) h)
+    begun (b ∷ bytes) h = ap (λ (t : Bool). place_or end (cond t (Some place) (place_from starts.Trace (place + 1) (b == 10) bytes))) (digit-is-trace (b ∷ bytes) h)
 
 -- a head without a count of stripes, that count, lines of what is listed, and a trace
-parted-at : (head stripes lines trace : List ℕ) → Passes marks.Stripes head → ((place : ℕ) (rest : List ℕ) → place_from marks.Stripes place true (line stripes ++ rest) ≡ Some place) → lacks 10 stripes ≡ true → Passes marks.Trace lines
-    → ((place end : ℕ) → end ≡ place + length trace → place_or end (place_from marks.Trace place true trace) ≡ place)
+parted-at : (head stripes lines trace : List ℕ) → Passes starts.Stripes head → ((place : ℕ) (rest : List ℕ) → place_from starts.Stripes place true (line stripes ++ rest) ≡ Some place) → lacks 10 stripes ≡ true → Passes starts.Trace lines
+    → ((place end : ℕ) → end ≡ place + length trace → place_or end (place_from starts.Trace place true trace) ≡ place)
     → trace_place (head ++ (line stripes ++ (lines ++ trace))) ≡ length head + length (line stripes) + length lines
 parted-at head stripes lines trace before count clean listed found =
     let output = head ++ (line stripes ++ (lines ++ trace)) in
     let at = 0 + length head in
     let same : 0 + length head ≡ length head = omega arith in
-    let first : place_from marks.Stripes 0 true output ≡ Some (length head) = before 0 (line stripes ++ (lines ++ trace)) ∙ count at (lines ++ trace) ∙ ap (λ (k : ℕ). Some k) same in
+    let first : place_from starts.Stripes 0 true output ≡ Some (length head) = before 0 (line stripes ++ (lines ++ trace)) ∙ count at (lines ++ trace) ∙ ap (λ (k : ℕ). Some k) same in
     let behind : drop (length head) output ≡ line stripes ++ (lines ++ trace) = drop_at head (line stripes ++ (lines ++ trace)) (length head) refl in
     let place = length head + length (line stripes) + length lines in
-    let walk : place_from marks.Trace (length head) false (line stripes ++ (lines ++ trace)) ≡ place_from marks.Trace place true trace =
-    line-goes marks.Trace stripes (lines ++ trace) (length head) clean ∙ listed (length head + length (line stripes)) trace in
+    let walk : place_from starts.Trace (length head) false (line stripes ++ (lines ++ trace)) ≡ place_from starts.Trace place true trace =
+    line-goes starts.Trace stripes (lines ++ trace) (length head) clean ∙ listed (length head + length (line stripes)) trace in
     let all : length output ≡ length head + (length (line stripes) + (length lines + length trace)) =
     length-append head (line stripes ++ (lines ++ trace)) ∙ ap (λ (k : ℕ). length head + k) (length-append (line stripes) (lines ++ trace) ∙ ap (λ (k : ℕ). length (line stripes) + k) (length-append lines trace)) in
     let end : length output ≡ place + length trace = omega (arith, all) in
     ap (λ (o : Option ℕ). behind_stripes output o) first
-    ∙ ap (λ (t : List ℕ). place_or (length output) (place_from marks.Trace (length head) false t)) behind
+    ∙ ap (λ (t : List ℕ). place_or (length output) (place_from starts.Trace (length head) false t)) behind
     ∙ ap (λ (o : Option ℕ). place_or (length output) o) walk
     ∙ found place (length output) end
 
@@ -408,13 +437,13 @@ report-parted script journal =
     let replies = reply_lines script.geometry past 1 script.calls in
     let entries = entries_line past in
     ap trace_place (grouped replies entries (stripes_line s past) (listed-lines s past) (trace_of journal))
-    ∙ parted-at (replies ++ entries) (stripes-text s past) (listed-lines s past) (trace_of journal) (both-pass marks.Stripes replies entries (replies-pass script.geometry past 1 script.calls) (entries-pass past))
+    ∙ parted-at (replies ++ entries) (stripes-text s past) (listed-lines s past) (trace_of journal) (both-pass starts.Stripes replies entries (replies-pass script.geometry past 1 script.calls) (entries-pass past))
     (λ place rest. stripes-found s past rest place) (stripes-lack s past) (listed-pass s past) (trace-found journal)
     ∙ joined-length replies entries (stripes_line s past) (listed-lines s past)
 
 -- ---- the whole input
 
-parts-again : (script report trace : List ℕ) → place_from marks.Output 0 true (script ++ (output_line ++ (report ++ trace))) ≡ Some (length script) → trace_place (report ++ trace) ≡ length report
+parts-again : (script report trace : List ℕ) → place_from starts.Output 0 true (script ++ (output_line ++ (report ++ trace))) ≡ Some (length script) → trace_place (report ++ trace) ≡ length report
     → parts_of (script ++ (output_line ++ (report ++ trace))) ≡ Some (record { script = script; report = report; trace = trace })
 unfolding parts_of
 parts-again script report trace first split =

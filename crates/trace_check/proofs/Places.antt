@@ -1,20 +1,20 @@
 -- Where lines begin, one byte on; what two texts have in common, one byte on; and what stops a check.
 use Rattle.std.proofs.Common.{◌≡◌, ℕ, ◌+◌, ◌-◌, ◌<◌, ◌≤◌, ◌==◌, ◌&&◌, cond, Bool, true, false, List, [], ◌∷◌, length, take, drop, get_or, Some, None, refl, sym, ap, ◌∙◌, length-drop, arith}
 use Rattle.std.proofs.lemmas.List.{drop_more, at_drop_more, take_all}
-use Rattle.trace_check.specs.declared.checking.parting.Mark.{Mark}
-use Rattle.trace_check.specs.Inputs.{marked, place_from}
+use Rattle.trace_check.specs.declared.checking.parting.LineStart.{LineStart}
+use Rattle.trace_check.specs.Inputs.{starts_line, place_from}
 use Rattle.trace_check.specs.Findings.{common}
 
-pub place-step : (mark : Mark) (place : ℕ) (begins : Bool) (bytes : List ℕ) → place < length bytes
-    → place_from mark place begins (drop place bytes) ≡ cond (begins && marked mark (drop place bytes)) (Some place) (place_from mark (place + 1) (get_or bytes place 0 == 10) (drop (place + 1) bytes))
-place-step mark place begins bytes h =
-    at_drop_more (place_from mark place begins) bytes place 0 h
-    ∙ ap (λ x. cond (begins && marked mark x) (Some place) (place_from mark (place + 1) (get_or bytes place 0 == 10) (drop (place + 1) bytes))) (sym (drop_more bytes place 0 h))
+pub place-step : (start : LineStart) (place : ℕ) (begins : Bool) (bytes : List ℕ) → place < length bytes
+    → place_from start place begins (drop place bytes) ≡ cond (begins && starts_line start (drop place bytes)) (Some place) (place_from start (place + 1) (get_or bytes place 0 == 10) (drop (place + 1) bytes))
+place-step start place begins bytes h =
+    at_drop_more (place_from start place begins) bytes place 0 h
+    ∙ ap (λ x. cond (begins && starts_line start x) (Some place) (place_from start (place + 1) (get_or bytes place 0 == 10) (drop (place + 1) bytes))) (sym (drop_more bytes place 0 h))
 
-pub place-end : (mark : Mark) (place : ℕ) (begins : Bool) (bytes : List ℕ) → length bytes ≤ place → place_from mark place begins (drop place bytes) ≡ None
-place-end mark place begins bytes h = none (drop place bytes) (omega (arith, length-drop place bytes))
+pub place-end : (start : LineStart) (place : ℕ) (begins : Bool) (bytes : List ℕ) → length bytes ≤ place → place_from start place begins (drop place bytes) ≡ None
+place-end start place begins bytes h = none (drop place bytes) (omega (arith, length-drop place bytes))
   where
-    none : (xs : List ℕ) → length xs ≡ 0 → place_from mark place begins xs ≡ None
+    none : (xs : List ℕ) → length xs ≡ 0 → place_from start place begins xs ≡ None
     none [] e = refl
     none (x ∷ xs) e = absurd (omega (arith, e))
 

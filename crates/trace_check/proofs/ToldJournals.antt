@@ -13,7 +13,11 @@ use Rattle.array_journal.specs.declared.event.Event.TheVariants.{Fetch, Put, Dif
 use Rattle.array_journal.specs.declared.event.Why.{Why}
 use Rattle.array_journal.specs.declared.setting.Setting.{Setting}
 use Rattle.array_journal.specs.Entries.{name_of, at_lt}
-use Rattle.array_journal.specs.Decision.{Want, WantsRead, WantsWrite, WantsRebuild, WantsResync, Decision, Opens, Refuses, missing_count, decision}
+use Rattle.array_journal.specs.declared.decision.Want.{Want}
+use Rattle.array_journal.specs.declared.decision.Want.TheVariants.{Read as WantsRead, Write as WantsWrite, Rebuild as WantsRebuild, Resync as WantsResync}
+use Rattle.array_journal.specs.declared.decision.Decision.{Decision}
+use Rattle.array_journal.specs.declared.decision.Decision.TheVariants.{Opens, Refuses}
+use Rattle.array_journal.specs.Decision.{missing_count, decision}
 use Rattle.array_journal.specs.Listed.{is_listed}
 use Rattle.array_journal.specs.Lives.{is_missing, is_unfitted}
 use Rattle.array_journal.specs.Merge.{Rises}
@@ -23,9 +27,9 @@ use Rattle.host_scripts.specs.declared.script.Action.TheVariants as actions
 use Rattle.host_scripts.specs.declared.script.Call.{Call}
 use Rattle.host_scripts.specs.declared.script.Script.{Script}
 use Rattle.stripe_check.specs.Asked.{IsDecided, AreDecided}
-use Rattle.stripe_check.specs.Begins.{Aim, Begin, Opening, Refusal, Swapping, aim_of, begin_as, begin_aim, begin_job, begin_call, begin_of}
-use Rattle.stripe_check.specs.Jobs.{Job, Fails, Moves, Loses, Wipes, Replaces, Rebuilds, Resyncs, Transfer, illegal, first_offending, field_fault, cdb_fault, bytes_due, transfer_fault, unless, moved, reading, writing, raw_transfer, job_of, call_at}
-use Rattle.stripe_check.specs.Reports.{setting_of}
+use Rattle.host_requests.specs.Begins.{Aim, Begin, Opening, Refusal, Swapping, aim_of, begin_decided, begin_aim, begin_request, begin_call, begin_of}
+use Rattle.host_requests.specs.Requests.{Request, Fails, Moves, Loses, Wipes, Replaces, Rebuilds, Resyncs, Transfer, illegal, first_offending, field_fault, cdb_fault, bytes_due, transfer_fault, unless, moved, reading, writing, raw_transfer, request_of, call_at}
+use Rattle.host_requests.specs.Settings.{setting_of}
 use Rattle.journal_text.specs.Journals.{goes_on}
 use Rattle.trace_check.specs.Laws.{ToldJournalsLaw}
 use Rattle.journal_text.specs.Told.{IsToldSense, IsToldWhy, IsTold, IsToldEntry}
@@ -68,33 +72,33 @@ told-transfer g t =
 
 -- ---- jobs
 
-abbrev IsToldJob : Job → Type 0
-IsToldJob (Fails sense) = IsToldSense sense
-IsToldJob (Moves t) = Unit {0}
-IsToldJob (Loses target) = Unit {0}
-IsToldJob (Wipes target what) = Unit {0}
-IsToldJob (Replaces slot) = Unit {0}
-IsToldJob (Rebuilds slot) = Unit {0}
-IsToldJob Resyncs = Unit {0}
+abbrev IsToldRequest : Request → Type 0
+IsToldRequest (Fails sense) = IsToldSense sense
+IsToldRequest (Moves t) = Unit {0}
+IsToldRequest (Loses target) = Unit {0}
+IsToldRequest (Wipes target what) = Unit {0}
+IsToldRequest (Replaces slot) = Unit {0}
+IsToldRequest (Rebuilds slot) = Unit {0}
+IsToldRequest Resyncs = Unit {0}
 
-told-unless : (fault : Option Sense) (job : Job) → IsToldFault fault → IsToldJob job → IsToldJob (unless fault job)
+told-unless : (fault : Option Sense) (job : Request) → IsToldFault fault → IsToldRequest job → IsToldRequest (unless fault job)
 told-unless None job f j = j
 told-unless (Some sense) job f j = f
 
-told-moved : (g : Geometry) (t : Transfer) → IsToldJob (moved g t)
+told-moved : (g : Geometry) (t : Transfer) → IsToldRequest (moved g t)
 told-moved g t = told-unless (transfer_fault g t) (Moves t) (told-transfer g t) tt
 
-told-job : (g : Geometry) (action : Action) → IsToldJob (job_of g action)
-told-job g (actions.Read lba count) = told-moved g (reading lba count [])
-told-job g (actions.Write lba bytes) = told-moved g (writing lba (length bytes / g.block) bytes)
-told-job g (actions.Fill lba count byte) = told-moved g (writing lba count (replicate (count * g.block) byte))
-told-job g (actions.Raw cdb bytes) = told-unless (cdb_fault cdb) (moved g (raw_transfer cdb bytes)) (told-cdb cdb) (told-moved g (raw_transfer cdb bytes))
-told-job g (actions.Lose target) = tt
-told-job g (actions.Reset target) = tt
-told-job g (actions.DropNext target) = tt
-told-job g (actions.Replace target) = tt
-told-job g (actions.Rebuild target) = tt
-told-job g actions.Resync = tt
+told-request : (g : Geometry) (action : Action) → IsToldRequest (request_of g action)
+told-request g (actions.Read lba count) = told-moved g (reading lba count [])
+told-request g (actions.Write lba bytes) = told-moved g (writing lba (length bytes / g.block) bytes)
+told-request g (actions.Fill lba count byte) = told-moved g (writing lba count (replicate (count * g.block) byte))
+told-request g (actions.Raw cdb bytes) = told-unless (cdb_fault cdb) (moved g (raw_transfer cdb bytes)) (told-cdb cdb) (told-moved g (raw_transfer cdb bytes))
+told-request g (actions.Lose target) = tt
+told-request g (actions.Reset target) = tt
+told-request g (actions.DropNext target) = tt
+told-request g (actions.Replace target) = tt
+told-request g (actions.Rebuild target) = tt
+told-request g actions.Resync = tt
 
 -- ---- decisions
 
@@ -129,7 +133,7 @@ IsToldBegin (Some (Opening task)) = Unit {0}
 IsToldBegin (Some (Refusal why)) = IsToldWhy why
 IsToldBegin (Some (Swapping slot)) = Unit {0}
 
-told-as : (g : Geometry) (call piece : ℕ) (aim : Aim) (d : Decision) → IsToldDecision d → IsToldBegin (Some (begin_as g call piece aim d))
+told-as : (g : Geometry) (call piece : ℕ) (aim : Aim) (d : Decision) → IsToldDecision d → IsToldBegin (Some (begin_decided g call piece aim d))
 told-as g call piece aim (Opens kind) told = tt
 told-as g call piece aim (Refuses why) told = told
 
@@ -139,7 +143,7 @@ told-aim script call piece past (Some aim) =
     let d = decision (setting_of script) aim.want aim.stripe aim.target past in
     told-as script.geometry call piece aim d (told-decision (setting_of script) aim.want aim.stripe aim.target past)
 
-told-begin : (script : Script) (call piece : ℕ) (past : List Entry) (job : Job) → IsToldJob job → IsToldBegin (begin_job script call piece past job)
+told-begin : (script : Script) (call piece : ℕ) (past : List Entry) (job : Request) → IsToldRequest job → IsToldBegin (begin_request script call piece past job)
 told-begin script call piece past (Fails sense) told = chosen IsToldBegin (piece == 0) _ _ told tt
 told-begin script call piece past (Replaces slot) told =
     chosen IsToldBegin (piece == 0) _ _ (chosen (λ (b : Begin). IsToldBegin (Some b)) (is_unfitted slot past) _ _ tt tt) tt
@@ -152,7 +156,7 @@ told-begin script call piece past Resyncs told = told-aim script call piece past
 told-call : (script : Script) (number piece : ℕ) (past : List Entry) (call : Option Call) → IsToldBegin (begin_call script number piece past call)
 told-call script number piece past None = tt
 told-call script number piece past (Some call) =
-    told-begin script number piece past (job_of script.geometry call.action) (told-job script.geometry call.action)
+    told-begin script number piece past (request_of script.geometry call.action) (told-request script.geometry call.action)
 
 told-refusal : (script : Script) (call piece : ℕ) (past : List Entry) (why : Why) → begin_of script call piece past ≡ Some (Refusal why) → IsToldWhy why
 told-refusal script call piece past why e = subst IsToldBegin e (told-call script call piece past (call_at script.calls call))

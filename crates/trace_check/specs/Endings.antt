@@ -6,13 +6,13 @@ use Rattle.host_scripts.specs.declared.script.Script.{Script}
 use Rattle.outer_io.specs.Outside.{AppendsPrefix}
 use Rattle.program_status.specs.declared.status.Verdict.{Verdict}
 use Rattle.program_status.specs.declared.status.Verdict.TheVariants.{Rejected, Refused, Exceeded}
-use Rattle.program_status.specs.declared.stops.Stop.{Stop}
+use Rattle.program_status.specs.declared.stops.ProgramStop.{ProgramStop}
 use Rattle.program_status.specs.Statuses.{verdict_code}
 use Rattle.program_status.specs.Stops.{note_of}
 use Rattle.program_status.specs.Endings as endings
 use Rattle.program_status.specs.Endings.{StopsReading, StopsProgram, AfterReading, IsInputTaken, GainsOne, GainsPrefix}
-use Rattle.trace_check.specs.declared.checking.findings.Finding.{Finding}
-use Rattle.trace_check.specs.declared.checking.findings.Finding.TheVariants as findings
+use Rattle.trace_check.specs.declared.checking.findings.CheckFinding.{CheckFinding}
+use Rattle.trace_check.specs.declared.checking.findings.CheckFinding.TheVariants as findings
 use Rattle.trace_check.specs.Findings.{IsSound, IsFound}
 use Rattle.trace_check.specs.Notes.{finding_line, accepted_line}
 
@@ -21,7 +21,7 @@ abbrev pub AsksCheck : List (List ℕ) → Type 0
 AsksCheck words = words ≡ codes "check" ∷ []
 
 -- what isn't a run's, a script that is refused, or a limit that is passed
-abbrev pub verdict_of : Finding → Verdict
+abbrev pub verdict_of : CheckFinding → Verdict
 verdict_of findings.TooLong = Exceeded
 verdict_of (findings.Refused number cause) = Refused
 verdict_of (findings.Over limit) = Exceeded
@@ -31,23 +31,23 @@ verdict_of findings.Unasked = Rejected
 verdict_of (findings.ReportLine number) = Rejected
 
 -- 1, 2 and 7
-abbrev pub finding_status : Finding → ℕ
+abbrev pub finding_status : CheckFinding → ℕ
 finding_status finding = verdict_code (verdict_of finding)
 
 -- what stops a check of what is found to be so
-abbrev pub StopsBy : (Finding → Type 0) → Stop Finding → Type 0
+abbrev pub StopsBy : (CheckFinding → Type 0) → ProgramStop CheckFinding → Type 0
 StopsBy Is stop = endings.StopsBy finding_line Is stop
 
 -- what there is in the input and the source's count of faults that stops a check
-abbrev pub StopsCheck : Option (List ℕ) → ℕ → ℕ → Stop Finding → Type 0
+abbrev pub StopsCheck : Option (List ℕ) → ℕ → ℕ → ProgramStop CheckFinding → Type 0
 StopsCheck input before after stop = StopsReading finding_line (λ finding. IfSome input (λ bytes. IsFound bytes finding)) before after stop
 
 -- the words ask for a check, and this is found of the input where its bytes are known
-abbrev pub IsFoundBy : List (List ℕ) → Option (List ℕ) → Finding → Type 0
+abbrev pub IsFoundBy : List (List ℕ) → Option (List ℕ) → CheckFinding → Type 0
 IsFoundBy words input finding = AsksCheck words × IfSome input (λ bytes. IsFound bytes finding)
 
 -- what there is in the words besides
-abbrev pub StopsFor : List (List ℕ) → Option (List ℕ) → ℕ → ℕ → Stop Finding → Type 0
+abbrev pub StopsFor : List (List ℕ) → Option (List ℕ) → ℕ → ℕ → ProgramStop CheckFinding → Type 0
 StopsFor words input before after stop = StopsProgram (AsksCheck words → ⊥) (AsksCheck words) (AsksCheck words) finding_line (IsFoundBy words input) before after stop
 
 -- the bytes are those of a run with so many entries
@@ -69,10 +69,10 @@ IsCutShort words input before after = GainsPrefix (IsTold words input) before af
 -- input is taken
 abbrev pub IsNoteCutShort : List (List ℕ) → Option (List ℕ) → Option (List ℕ) → ℕ → ℕ → Option (List ℕ) → Option (List ℕ) → Type 0
 IsNoteCutShort words input left before after old new =
-    (stop : Stop Finding) × (StopsFor words input before after stop × AfterReading (IsInputTaken input left) stop × AppendsPrefix old new (note_of stop))
+    (stop : ProgramStop CheckFinding) × (StopsFor words input before after stop × AfterReading (IsInputTaken input left) stop × AppendsPrefix old new (note_of stop))
 
 -- notes have gained the line of a finding with this status
 abbrev pub IsNoted : List (List ℕ) → Option (List ℕ) → ℕ → Option (List ℕ) → Option (List ℕ) → Type 0
 IsNoted words input status before after =
     AsksCheck words
-    × ((finding : Finding) × (IfSome input (λ bytes. IsFound bytes finding) × ((finding_status finding ≡ status) × Appends before after (finding_line finding))))
+    × ((finding : CheckFinding) × (IfSome input (λ bytes. IsFound bytes finding) × ((finding_status finding ≡ status) × Appends before after (finding_line finding))))

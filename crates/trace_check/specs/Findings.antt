@@ -13,13 +13,14 @@ use Rattle.host_scripts.specs.Refusals.{IsRefusal}
 use Rattle.host_scripts.specs.Limits.{limit_of}
 use Rattle.outer_io.specs.Outside.{input_limit}
 use Rattle.stripe_check.specs.Asked.{IsAsked}
-use Rattle.stripe_check.specs.Reports.{setting_of, report_of}
+use Rattle.host_requests.specs.Settings.{setting_of}
+use Rattle.stripe_check.specs.Reports.{report_of}
 use Rattle.journal_text.specs.Traces.{trace_of}
-use Rattle.trace_check.specs.declared.checking.findings.Finding.{Finding}
-use Rattle.trace_check.specs.declared.checking.findings.Finding.TheVariants.{TooLong, Refused, Over, TextLine, RunEntry, Unasked, ReportLine}
+use Rattle.trace_check.specs.declared.checking.findings.CheckFinding.{CheckFinding}
+use Rattle.trace_check.specs.declared.checking.findings.CheckFinding.TheVariants.{TooLong, Refused, Over, TextLine, RunEntry, Unasked, ReportLine}
 use Rattle.trace_check.specs.Inputs.{Parts, parts_of, output_line}
 use Rattle.journal_text.specs.Readable as readable
-use Rattle.trace_check.specs.Faults as faults
+use Rattle.run_check.specs.Faults as faults
 
 -- ---- numbers of lines
 
@@ -64,7 +65,7 @@ pub record IsSound (input : List ℕ) (script : Script) (journal : List Entry) :
 
 -- the first part is this script, which is within the limits, and the last the trace of this journal
 pub record HasJournal (parts : Parts) (script : Script) (journal : List Entry) : Type 0 where
-  pub spelt : scripts.Spells parts.script script
+  pub spelt : scripts.SpellsScript parts.script script
   pub within : limit_of script ≡ None
   pub traced : readable.SpellsTrace parts.trace journal
 
@@ -81,7 +82,7 @@ pub record IsMisreported (script : Script) (journal : List Entry) (report : List
   pub first : number ≡ differing_line report (report_of script journal)
 
 -- what a journal with a report is found to be
-abbrev pub IsFoundOf : Script → List Entry → List ℕ → Finding → Type 0
+abbrev pub IsFoundOf : Script → List Entry → List ℕ → CheckFinding → Type 0
 IsFoundOf script journal report TooLong = ⊥
 IsFoundOf script journal report (Refused number cause) = ⊥
 IsFoundOf script journal report (Over limit) = ⊥
@@ -91,12 +92,12 @@ IsFoundOf script journal report Unasked = Run (setting_of script) journal × (Is
 IsFoundOf script journal report (ReportLine number) = IsMisreported script journal report number
 
 -- the same of the parts of an input, for a script that is within the limits
-abbrev pub IsFoundFor : Parts → Finding → Type 0
+abbrev pub IsFoundFor : Parts → CheckFinding → Type 0
 IsFoundFor parts finding = (script : Script) × ((journal : List Entry) × (HasJournal parts script journal × IsFoundOf script journal parts.report finding))
 
 -- the trace has a first line that spells no entry that may stand behind those before; it is counted in the whole input
 pub record IsUnspelt (parts : Parts) (script : Script) (number line : ℕ) : Type 0 where
-  pub spelt : scripts.Spells parts.script script
+  pub spelt : scripts.SpellsScript parts.script script
   pub within : limit_of script ≡ None
   pub first : readable.IsFirstFaultyLine parts.trace line
   pub counted : number ≡ line_ends parts.script + 1 + line_ends parts.report + line
@@ -112,17 +113,17 @@ abbrev pub IsJournalOf : List ℕ → List Entry → Type 0
 IsJournalOf trace journal = readable.SpellsTrace trace journal
 
 -- what a script's bytes are found to be
-abbrev pub IsScriptFault : List ℕ → Finding → Type 0
+abbrev pub IsScriptFault : List ℕ → CheckFinding → Type 0
 IsScriptFault bytes TooLong = ⊥
 IsScriptFault bytes (Refused number cause) = IsRefusal bytes number cause
-IsScriptFault bytes (Over limit) = (script : Script) × (scripts.Spells bytes script × (limit_of script ≡ Some limit))
+IsScriptFault bytes (Over limit) = (script : Script) × (scripts.SpellsScript bytes script × (limit_of script ≡ Some limit))
 IsScriptFault bytes (TextLine number) = ⊥
 IsScriptFault bytes (RunEntry number) = ⊥
 IsScriptFault bytes Unasked = ⊥
 IsScriptFault bytes (ReportLine number) = ⊥
 
 -- what a trace behind so many lines is found to be
-abbrev pub IsTraceFault : List ℕ → ℕ → Finding → Type 0
+abbrev pub IsTraceFault : List ℕ → ℕ → CheckFinding → Type 0
 IsTraceFault trace ahead TooLong = ⊥
 IsTraceFault trace ahead (Refused number cause) = ⊥
 IsTraceFault trace ahead (Over limit) = ⊥
@@ -132,17 +133,17 @@ IsTraceFault trace ahead Unasked = ⊥
 IsTraceFault trace ahead (ReportLine number) = ⊥
 
 -- what the parts are found to be
-abbrev pub IsFoundIn : Parts → Finding → Type 0
+abbrev pub IsFoundIn : Parts → CheckFinding → Type 0
 IsFoundIn parts TooLong = ⊥
 IsFoundIn parts (Refused number cause) = IsRefusal parts.script number cause
-IsFoundIn parts (Over limit) = (script : Script) × (scripts.Spells parts.script script × (limit_of script ≡ Some limit))
+IsFoundIn parts (Over limit) = (script : Script) × (scripts.SpellsScript parts.script script × (limit_of script ≡ Some limit))
 IsFoundIn parts (TextLine number) = (script : Script) × ((line : ℕ) × IsUnspelt parts script number line)
 IsFoundIn parts (RunEntry number) = IsFoundFor parts (RunEntry number)
 IsFoundIn parts Unasked = IsFoundFor parts Unasked
 IsFoundIn parts (ReportLine number) = IsFoundFor parts (ReportLine number)
 
 -- no line is `output`, or the parts are found to be this
-abbrev pub IsFoundAt : Option Parts → Finding → Type 0
+abbrev pub IsFoundAt : Option Parts → CheckFinding → Type 0
 IsFoundAt (Some parts) finding = IsFoundIn parts finding
 IsFoundAt None TooLong = ⊥
 IsFoundAt None (Refused number cause) = (number ≡ 0) × (cause ≡ Form)
@@ -153,7 +154,7 @@ IsFoundAt None Unasked = ⊥
 IsFoundAt None (ReportLine number) = ⊥
 
 -- what an input is found to be, the first that applies
-abbrev pub IsFound : List ℕ → Finding → Type 0
+abbrev pub IsFound : List ℕ → CheckFinding → Type 0
 IsFound input TooLong = input_limit < length input
 IsFound input (Refused number cause) = (length input ≤ input_limit) × IsFoundAt (parts_of input) (Refused number cause)
 IsFound input (Over limit) = (length input ≤ input_limit) × IsFoundAt (parts_of input) (Over limit)

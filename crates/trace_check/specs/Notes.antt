@@ -3,10 +3,10 @@ use Rattle.std.specs.Prelude.{ℕ, List, codes}
 use Rattle.text_fields.specs.Spelling.{line}
 use Rattle.program_status.specs.declared.notes.Excess.TheVariants.{Input, Script}
 use Rattle.program_status.specs.Notes.{excess_line, cause_word, numbered_line, refused_line}
-use Rattle.trace_check.specs.declared.checking.findings.Finding.{Finding}
-use Rattle.trace_check.specs.declared.checking.findings.Finding.TheVariants as findings
+use Rattle.trace_check.specs.declared.checking.findings.CheckFinding.{CheckFinding}
+use Rattle.trace_check.specs.declared.checking.findings.CheckFinding.TheVariants as findings
 
-abbrev pub finding_line : Finding → List ℕ
+abbrev pub finding_line : CheckFinding → List ℕ
 finding_line findings.TooLong = excess_line Input
 finding_line (findings.Refused number cause) = refused_line number (cause_word cause)
 finding_line (findings.Over limit) = excess_line (Script limit)

@@ -4,27 +4,23 @@ ghost use Rattle.std.specs.Prelude.{◌≡◌, ◌&&◌, ◌<◌, ◌^◌, ◌�
 ghost use Rattle.host_scripts.specs.Scripts.{IsScript};
 ghost use Rattle.stripe_check.specs.Asked.{IsAsked};
 
-mod beginning;
-mod call_steps;
 mod calls;
 mod causes;
 mod deciding;
+mod entry_scan;
+mod entry_steps;
 mod host_order;
-mod jobs;
-mod notes;
+mod noted_losses;
 mod operator_calls;
-mod owning;
+mod owners;
 mod piece_order;
-mod pieces;
-mod scan;
-mod steps;
+mod steps_by_call;
 
-pub use crate::asking::beginning::setting_of;
 use crate::asking::calls::are_served;
+use crate::asking::entry_scan::scan_entries;
 use crate::asking::host_order::are_in_turn;
-use crate::asking::notes::Noted;
-use crate::asking::owning::is_none_open;
-use crate::asking::scan::survey_of;
+use crate::asking::noted_losses::NotedLosses;
+use crate::asking::owners::is_none_open;
 use array_journal::Journal;
 use blocks_core::Memory;
 use host_scripts::Script;
@@ -39,9 +35,9 @@ fn are_all(in_turn: bool, served: bool, decided: bool, owned: bool, closed: bool
 
 /// Whether a journal is what the calls of a script ask for: each host's calls one after another, each
 /// call with the entries that it asks for, each piece begun as the book decides, no entry of no call,
-/// and no command left open. It isn't asked whether the journal is a run. Takes memory for the marks of
+/// and no command left open. It isn't asked whether the journal is a run. Takes memory for the steps of
 /// the entries, their index, the losses that they note and the steps of the calls. Each entry costs a few
-/// lookups, as in `run_fault`, and each host looks through all marks once.
+/// lookups, as in `run_fault`, and each host looks through all steps once.
 pub fn asked(alloc: Global, script: &Script, journal: &Journal) -> Result<bool, Memory>
     requires script { IsScript script.now }
     requires calls { length script.now.calls < 2 ^ 32 }
@@ -49,12 +45,12 @@ pub fn asked(alloc: Global, script: &Script, journal: &Journal) -> Result<bool, 
     ensures { IfOk result (λ asked. IsTrue asked ↔ IsAsked script.now journal.now) }
 {
     let entries = journal.as_slice();
-    let survey = survey_of(alloc, script, entries)?;
-    let marks = survey.marks.as_slice();
-    let past = Past::new(entries, &survey.index);
-    let noted = Noted::new(alloc, &past)?;
-    let served = are_served(alloc, script, &noted, marks)?;
-    let in_turn = are_in_turn(script, marks);
+    let scan = scan_entries(alloc, script, entries)?;
+    let entry_steps = scan.entry_steps.as_slice();
+    let past = Past::new(entries, &scan.index);
+    let noted = NotedLosses::new(alloc, &past)?;
+    let served = are_served(alloc, script, &noted, entry_steps)?;
+    let in_turn = are_in_turn(script, entry_steps);
     let closed = is_none_open(&past);
-    Ok(are_all(in_turn, served, survey.decided, survey.owned, closed))
+    Ok(are_all(in_turn, served, scan.decided, scan.owned, closed))
 }

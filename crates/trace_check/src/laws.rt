@@ -7,7 +7,7 @@ ghost use Rattle.host_scripts.specs.Scripts.{IsScript};
 ghost use Rattle.host_scripts.specs.Limits.{limit_of};
 ghost use Rattle.outer_io.specs.Outside.{input_limit};
 ghost use Rattle.stripe_check.specs.Asked.{IsAsked};
-ghost use Rattle.stripe_check.specs.Reports.{setting_of};
+ghost use Rattle.host_requests.specs.Settings.{setting_of};
 ghost use Rattle.trace_check.specs.Findings.{IsAccepted};
 ghost use Rattle.trace_check.specs.Laws.{ToldJournalsLaw, printed};
 

@@ -4,11 +4,10 @@
 
 mod asking;
 mod checking;
-mod judging;
 mod laws;
 
 pub use asking::asked;
 pub use checking::check;
 pub use journal_text::{TraceFault, printed_is_read, read_trace};
-pub use judging::run_fault;
 pub use laws::{asked_journals_are_told, printed_runs_are_accepted};
+pub use run_check::run_fault;

@@ -1,30 +1,30 @@
 //! Whether each call has the entries that it asks for.
 
 ghost use Rattle.std.specs.Prelude.{◌≡◌, ◌↔◌, ◌<◌, ◌+◌, ◌^◌, ◌∷◌, [], false, IsTrue, IfOk, reverse, length, map};
+ghost use Rattle.stripe_layout.specs.Layout.{stripes_of};
 ghost use Rattle.array_journal.specs.declared.event.Why.TheVariants as causes;
 ghost use Rattle.host_scripts.specs.Scripts.{IsScript};
 ghost use Rattle.stripe_check.specs.Asked.{IsServed, AreServed, goes_through};
-ghost use Rattle.stripe_check.specs.Jobs.{job_of};
+ghost use Rattle.host_requests.specs.Forms.{request_as, sense_of, IsWithin};
+ghost use Rattle.host_requests.specs.Requests.{request_of};
 ghost use Rattle.stripe_check.specs.Steps as asked;
 ghost use Rattle.stripe_check.specs.Steps.{steps_of};
-ghost use Rattle.trace_check.specs.Asking.{step_of, AreMarksOf};
-ghost use Rattle.trace_check.specs.AskingJobs.{job_now, sense_of};
+ghost use Rattle.trace_check.specs.EntrySteps.{step_of, AreStepsOf};
 
-use crate::asking::call_steps::{Mark, Step};
 use crate::asking::causes::is_same_cause;
 use crate::asking::deciding::both;
-use crate::asking::jobs::{Asks, Fault, asks_of, sense_made};
-use crate::asking::notes::Noted;
+use crate::asking::entry_steps::{EntryStep, Step};
+use crate::asking::noted_losses::NotedLosses;
 use crate::asking::operator_calls::{is_lost, is_replaced};
-use crate::asking::piece_order::{Plan, goes_through};
-use crate::asking::pieces::piece_count;
-use crate::asking::steps::steps_of_calls;
+use crate::asking::piece_order::{CallPieces, goes_through};
+use crate::asking::steps_by_call::steps_by_call_of;
 use array_journal::{What, Why};
 use blocks_core::Memory;
+use host_requests::{Request, RequestFault, request_of};
 use host_scripts::{Call, Script};
 use std::alloc::Global;
 
-fn is_failure(step: Step, fault: Fault) -> bool
+fn is_failure(step: Step, fault: RequestFault) -> bool
     ensures { IsTrue result ↔ (step_of step ≡ asked.Refused 0 (causes.Illegal (sense_of fault))) }
 {
     match step {
@@ -32,7 +32,7 @@ fn is_failure(step: Step, fault: Fault) -> bool
             let same = is_same_cause(
                 why,
                 Why::Illegal {
-                    sense: sense_made(fault),
+                    sense: fault.sense(),
                 },
             );
             piece == 0 && same
@@ -60,7 +60,7 @@ fn is_wipe(step: Step, target: u8, what: What) -> bool
 }
 
 /// Whether a call that fails a test has its one refusal.
-fn fails_so(steps: &[Step], fault: Fault) -> bool
+fn fails_so(steps: &[Step], fault: RequestFault) -> bool
     ensures { IsTrue result ↔ (map step_of steps.now ≡ asked.Refused 0 (causes.Illegal (sense_of fault)) ∷ []) }
 {
     match steps {
@@ -80,61 +80,63 @@ fn wipes_so(steps: &[Step], target: u8, what: What) -> bool
 }
 
 fn goes_over_stripes(script: &Script, steps: &[Step]) -> bool
-    requires { length steps.now < 2 ^ 32 }
-    ensures { result ≡ goes_through false script.now.geometry.stripes 0 0 (map step_of steps.now) }
+    requires script { IsScript script.now }
+    requires few { length steps.now < 2 ^ 32 }
+    ensures { result ≡ goes_through false (stripes_of script.now.geometry) 0 0 (map step_of steps.now) }
 {
-    let plan = Plan {
+    let pieces = CallPieces {
         fatal: false,
-        count: u64::from(script.geometry.stripes),
+        count: u64::from(script.geometry.stripes()),
     };
-    goes_through(plan, steps)
+    goes_through(pieces, steps)
 }
 
 /// Whether these are the steps of what is asked.
-fn is_served_as(script: &Script, noted: &Noted, asks: Asks, steps: &[Step]) -> bool
+fn is_served_as(script: &Script, noted: &NotedLosses, request: Request, steps: &[Step]) -> bool
     requires script { IsScript script.now }
+    requires within { IsWithin script.now.geometry request }
     requires few { length steps.now < 2 ^ 32 }
-    ensures { IsTrue result ↔ IsServed script.now (reverse noted.now) (job_now asks.entry) (map step_of steps.now) }
+    ensures { IsTrue result ↔ IsServed script.now noted.now (request_as request.entry) (map step_of steps.now) }
 {
-    match asks {
-        Asks::Fails { fault } => fails_so(steps, fault),
-        Asks::Moves { transfer } => {
-            let count = piece_count(script, transfer.lba, transfer.count) as u64;
-            goes_through(Plan { fatal: true, count }, steps)
+    match request {
+        Request::Illegal { fault } => fails_so(steps, fault),
+        Request::Blocks { transfer } => {
+            let count = u64::from(transfer.piece_count(script));
+            goes_through(CallPieces { fatal: true, count }, steps)
         }
-        Asks::Rebuilds { .. } => goes_over_stripes(script, steps),
-        Asks::Resyncs => goes_over_stripes(script, steps),
-        Asks::Loses { target } => is_lost(noted, target, steps),
-        Asks::Wipes { target, what } => wipes_so(steps, target, what),
-        Asks::Replaces { slot } => is_replaced(slot, steps),
+        Request::Rebuild { .. } => goes_over_stripes(script, steps),
+        Request::Resync => goes_over_stripes(script, steps),
+        Request::Lose { target } => is_lost(noted, target, steps),
+        Request::Wipe { target, what } => wipes_so(steps, target, what),
+        Request::Replace { slot } => is_replaced(slot, steps),
     }
 }
 
 /// Whether a call has the entries that it asks for, of which these are the steps.
-fn is_served(script: &Script, noted: &Noted, steps: &[Step], call: &Call) -> bool
+fn is_served(script: &Script, noted: &NotedLosses, steps: &[Step], call: &Call) -> bool
     requires script { IsScript script.now }
     requires few { length steps.now < 2 ^ 32 }
-    ensures { IsTrue result ↔ IsServed script.now (reverse noted.now) (job_of script.now.geometry call.now.action) (map step_of steps.now) }
+    ensures { IsTrue result ↔ IsServed script.now noted.now (request_of script.now.geometry call.now.action) (map step_of steps.now) }
 {
-    let asks = asks_of(&script.geometry, &call.action);
-    is_served_as(script, noted, asks, steps)
+    let request = request_of(&script.geometry, &call.action);
+    is_served_as(script, noted, request, steps)
 }
 
-/// Whether each call of a script has the entries that it asks for, by the marks of all entries. Takes
+/// Whether each call of a script has the entries that it asks for, by the steps of all entries. Takes
 /// memory for the steps of the calls.
 pub fn are_served(
     alloc: Global,
     script: &Script,
-    noted: &Noted,
-    marks: &[Mark],
+    noted: &NotedLosses,
+    entry_steps: &[EntryStep],
 ) -> Result<bool, Memory>
     requires script { IsScript script.now }
     requires calls { length script.now.calls < 2 ^ 32 }
-    requires marked { AreMarksOf (reverse marks.now) (reverse noted.now) }
-    requires few { length marks.now < 2 ^ 32 }
-    ensures { IfOk result (λ served. IsTrue served ↔ AreServed script.now (reverse noted.now) 1 script.now.calls) }
+    requires marked { AreStepsOf (reverse entry_steps.now) noted.now }
+    requires few { length entry_steps.now < 2 ^ 32 }
+    ensures { IfOk result (λ served. IsTrue served ↔ AreServed script.now noted.now 1 script.now.calls) }
 {
-    let all = steps_of_calls(alloc, marks)?;
+    let all = steps_by_call_of(alloc, entry_steps)?;
     let mut served = true;
     for (place, call) in script.calls.as_slice().iter().enumerate() {
         let here = is_served(script, noted, all.of(place as u32 + 1), call);

@@ -2,7 +2,7 @@
 
 ghost use Rattle.std.specs.Prelude.{◌≡◌, ◌↔◌, IsTrue, true};
 ghost use Rattle.array_journal.specs.declared.event.Why.TheVariants as causes;
-ghost use Rattle.trace_check.specs.AskingCauses.{number_of, is_plain};
+ghost use Rattle.trace_check.specs.CauseNumbers.{number_of, is_plain};
 
 use array_journal::Why;
 use sense_data::{Sense, encode};

@@ -3,16 +3,16 @@
 ghost use Rattle.std.specs.Prelude.{◌≡◌, ◌↔◌, ◌++◌, IsTrue, filter, reverse, List, ℕ};
 ghost use Rattle.std.specs.Option.{option_copied};
 ghost use Rattle.stripe_check.specs.Asked.{call_list, is_of_host, goes_back};
-ghost use Rattle.stripe_check.specs.Jobs.{call_at};
-ghost use Rattle.trace_check.specs.Asking.{calls_in};
-ghost use Rattle.trace_check.specs.HostOrder.{IsTurn, AreMarksInTurn};
+ghost use Rattle.host_requests.specs.Requests.{call_at};
+ghost use Rattle.trace_check.specs.EntrySteps.{calls_in};
+ghost use Rattle.trace_check.specs.HostOrder.{IsOrderOf, AreStepsInTurn};
 
-use crate::asking::call_steps::Mark;
+use crate::asking::entry_steps::EntryStep;
 use host_scripts::{Call, Script};
 
 /// The greatest call so far, and whether none came before it that was greater.
 #[derive(Clone, Copy, Debug)]
-struct Turn {
+struct CallOrder {
     greatest: u32,
     rises: bool,
 }
@@ -37,11 +37,11 @@ fn is_of_host(script: &Script, host: u8, number: u32) -> bool
     }
 }
 
-/// The call of a mark, where it is the host's.
-fn host_call(script: &Script, host: u8, mark: &Mark) -> Option<u32>
-    ensures { call_list result ≡ filter (is_of_host script.now host) (call_list mark.now.call) }
+/// The call of a step, where it is the host's.
+fn host_call(script: &Script, host: u8, entry_step: &EntryStep) -> Option<u32>
+    ensures { call_list result ≡ filter (is_of_host script.now host) (call_list entry_step.now.call) }
 {
-    match mark.call {
+    match entry_step.call {
         Some(number) => {
             if is_of_host(script, host, number) {
                 Some(number)
@@ -53,47 +53,47 @@ fn host_call(script: &Script, host: u8, mark: &Mark) -> Option<u32>
     }
 }
 
-fn turn_after(turn: Turn, call: Option<u32>) -> Turn
-    ensures { (calls : List ℕ) → IsTurn turn calls → IsTurn result (call_list call ++ calls) }
+fn order_after(order: CallOrder, call: Option<u32>) -> CallOrder
+    ensures { (calls : List ℕ) → IsOrderOf order calls → IsOrderOf result (call_list call ++ calls) }
 {
     match call {
         Some(number) => {
-            if number < turn.greatest {
-                Turn {
-                    greatest: turn.greatest,
+            if number < order.greatest {
+                CallOrder {
+                    greatest: order.greatest,
                     rises: false,
                 }
             } else {
-                Turn {
+                CallOrder {
                     greatest: number,
-                    rises: turn.rises,
+                    rises: order.rises,
                 }
             }
         }
-        None => turn,
+        None => order,
     }
 }
 
 /// Whether a host's calls come one after another.
-fn is_in_turn(script: &Script, marks: &[Mark], host: u8) -> bool
-    ensures { result ≡ goes_back (filter (is_of_host script.now host) (calls_in (reverse marks.now))) }
+fn is_in_turn(script: &Script, entry_steps: &[EntryStep], host: u8) -> bool
+    ensures { result ≡ goes_back (filter (is_of_host script.now host) (calls_in (reverse entry_steps.now))) }
 {
-    let mut turn = Turn {
+    let mut order = CallOrder {
         greatest: 0,
         rises: true,
     };
-    for mark in marks {
-        turn = turn_after(turn, host_call(script, host, mark));
+    for entry_step in entry_steps {
+        order = order_after(order, host_call(script, host, entry_step));
     }
-    turn.rises
+    order.rises
 }
 
 /// Whether each host's calls come one after another.
-pub fn are_in_turn(script: &Script, marks: &[Mark]) -> bool
-    ensures { IsTrue result ↔ AreMarksInTurn script.now (reverse marks.now) }
+pub fn are_in_turn(script: &Script, entry_steps: &[EntryStep]) -> bool
+    ensures { IsTrue result ↔ AreStepsInTurn script.now (reverse entry_steps.now) }
 {
     for host in 0..script.hosts {
-        if !is_in_turn(script, marks, host) {
+        if !is_in_turn(script, entry_steps, host) {
             return false;
         }
     }

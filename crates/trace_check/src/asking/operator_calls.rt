@@ -2,15 +2,15 @@
 
 ghost use Rattle.std.specs.Prelude.{◌≡◌, ◌∷◌, [], map, reverse};
 ghost use Rattle.stripe_check.specs.Asked.{is_lost, is_replaced};
-ghost use Rattle.trace_check.specs.Asking.{step_of};
+ghost use Rattle.trace_check.specs.EntrySteps.{step_of};
 
-use crate::asking::call_steps::Step;
-use crate::asking::notes::Noted;
-use crate::judging::ending::is_same_name;
+use crate::asking::entry_steps::Step;
+use crate::asking::noted_losses::NotedLosses;
 use array_journal::Why;
+use run_check::is_same_name;
 
-fn is_lost_by(noted: &Noted, target: u8, step: Step) -> bool
-    ensures { result ≡ is_lost (reverse noted.now) target (step_of step ∷ []) }
+fn is_lost_by(noted: &NotedLosses, target: u8, step: Step) -> bool
+    ensures { result ≡ is_lost noted.now target (step_of step ∷ []) }
 {
     match step {
         Step::Lost { lock, life } => {
@@ -21,8 +21,8 @@ fn is_lost_by(noted: &Noted, target: u8, step: Step) -> bool
 }
 
 /// Whether these are the steps of a loss of the target.
-pub fn is_lost(noted: &Noted, target: u8, steps: &[Step]) -> bool
-    ensures { result ≡ is_lost (reverse noted.now) target (map step_of steps.now) }
+pub fn is_lost(noted: &NotedLosses, target: u8, steps: &[Step]) -> bool
+    ensures { result ≡ is_lost noted.now target (map step_of steps.now) }
 {
     match steps {
         [step] => is_lost_by(noted, target, *step),

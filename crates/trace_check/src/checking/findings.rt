@@ -10,7 +10,7 @@ use std::alloc::Global;
 
 /// Why an input isn't accepted.
 #[derive(Clone, Copy, Debug, PartialEq, Eq)]
-pub(crate) enum Finding {
+pub(crate) enum CheckFinding {
     /// It has more bytes than are read.
     TooLong,
     /// This line of the script is refused, counted from 1; 0 where no line is `output`.
@@ -27,7 +27,7 @@ pub(crate) enum Finding {
     ReportLine { line: u64 },
 }
 
-impl program_status::Finding for Finding {
+impl program_status::Finding for CheckFinding {
     ghost use Rattle.trace_check.specs.Endings.{verdict_of};
     ghost use Rattle.trace_check.specs.Notes.{finding_line};
 
@@ -37,28 +37,35 @@ impl program_status::Finding for Finding {
 
     fn verdict(&self) -> Verdict {
         match self {
-            Finding::Refused { .. } => Verdict::Refused,
-            Finding::TooLong | Finding::Over { .. } => Verdict::Exceeded,
-            Finding::TextLine { .. }
-            | Finding::RunEntry { .. }
-            | Finding::Unasked
-            | Finding::ReportLine { .. } => Verdict::Rejected,
+            CheckFinding::Refused { .. } => Verdict::Refused,
+            CheckFinding::TooLong | CheckFinding::Over { .. } => Verdict::Exceeded,
+            CheckFinding::TextLine { .. }
+            | CheckFinding::RunEntry { .. }
+            | CheckFinding::Unasked
+            | CheckFinding::ReportLine { .. } => Verdict::Rejected,
         }
     }
 
     fn line(&self, alloc: Global) -> Result<Bytes, Memory> {
         match *self {
-            Finding::TooLong => Bytes::from_slice(alloc, excess_line(Excess::Input)),
-            Finding::Refused { line, cause } => {
+            CheckFinding::TooLong => Bytes::from_slice(alloc, excess_line(Excess::Input)),
+            CheckFinding::Refused { line, cause } => {
                 refused_line(alloc, u64::from(line), cause_word(cause))
             }
-            Finding::Over { limit } => Bytes::from_slice(alloc, excess_line(Excess::Script(limit))),
-            Finding::TextLine { line } => numbered_line(alloc, b"rejected text line", line),
-            Finding::RunEntry { entry } => {
+            CheckFinding::Over { limit } => Bytes::from_slice(
+                alloc,
+                excess_line(Excess::Script(limit)),
+            ),
+            CheckFinding::TextLine { line } => numbered_line(alloc, b"rejected text line", line),
+            CheckFinding::RunEntry { entry } => {
                 numbered_line(alloc, b"rejected run entry", u64::from(entry))
             }
-            Finding::Unasked => Bytes::from_slice(alloc, b"rejected asked\n"),
-            Finding::ReportLine { line } => numbered_line(alloc, b"rejected report line", line),
+            CheckFinding::Unasked => Bytes::from_slice(alloc, b"rejected asked\n"),
+            CheckFinding::ReportLine { line } => numbered_line(
+                alloc,
+                b"rejected report line",
+                line,
+            ),
         }
     }
 }

@@ -2,13 +2,13 @@
 
 ghost use Rattle.std.specs.Prelude.{◌≡◌, ◌≤◌, ◌<◌, ◌+◌, ◌&&◌, length, drop, IfSome};
 ghost use Rattle.text_fields.specs.Reading.{Reads};
-ghost use Rattle.trace_check.specs.Inputs.{marked, place_from, trace_place, parts_of};
+ghost use Rattle.trace_check.specs.Inputs.{starts_line, place_from, trace_place, parts_of};
 
 use text_fields::strip;
 
 /// What a line that parts an input begins with.
 #[derive(Clone, Copy, Debug, PartialEq, Eq)]
-pub(crate) enum Mark {
+pub(crate) enum LineStart {
     /// The line `output`, with its end.
     Output,
     /// The count of stripes in a report.
@@ -18,33 +18,33 @@ pub(crate) enum Mark {
 }
 
 /// Whether bytes begin so.
-fn marked(mark: Mark, bytes: &[u8]) -> bool
-    ensures { result ≡ marked mark bytes.now }
+fn starts_line(start: LineStart, bytes: &[u8]) -> bool
+    ensures { result ≡ starts_line start bytes.now }
 {
-    match mark {
-        Mark::Output => bytes.starts_with(b"output\n"),
-        Mark::Stripes => bytes.starts_with(b"stripes "),
-        Mark::Trace => !(bytes.starts_with(b"dirty ") || bytes.starts_with(b"absent ")),
+    match start {
+        LineStart::Output => bytes.starts_with(b"output\n"),
+        LineStart::Stripes => bytes.starts_with(b"stripes "),
+        LineStart::Trace => !(bytes.starts_with(b"dirty ") || bytes.starts_with(b"absent ")),
     }
 }
 
 /// Whether a line begins so.
-fn begins_so(mark: Mark, begins: bool, bytes: &[u8]) -> bool
-    ensures { result ≡ (begins && marked mark bytes.now) }
+fn begins_line(start: LineStart, begins: bool, bytes: &[u8]) -> bool
+    ensures { result ≡ (begins && starts_line start bytes.now) }
 {
-    begins && marked(mark, bytes)
+    begins && starts_line(start, bytes)
 }
 
 /// Where the first line from a place on begins so. At the place itself one begins, or none does.
-fn place_from(bytes: &[u8], mark: Mark, from: usize, begins: bool) -> Option<usize>
+fn place_from(bytes: &[u8], start: LineStart, from: usize, begins: bool) -> Option<usize>
     requires { from ≤ length bytes.now }
-    ensures value { result ≡ place_from mark from begins (drop from bytes.now) }
+    ensures value { result ≡ place_from start from begins (drop from bytes.now) }
     ensures within { IfSome result (λ place. place < length bytes.now) }
 {
     let mut place = from;
     let mut begins = begins;
     while place < bytes.len() {
-        if begins_so(mark, begins, &bytes[place..]) {
+        if begins_line(start, begins, &bytes[place..]) {
             return Some(place);
         }
         begins = bytes[place] == b'\n';
@@ -58,10 +58,10 @@ fn trace_place(output: &[u8]) -> usize
     ensures value { result ≡ trace_place output.now }
     ensures within { result ≤ length output.now }
 {
-    let Some(stripes) = place_from(output, Mark::Stripes, 0, true) else {
+    let Some(stripes) = place_from(output, LineStart::Stripes, 0, true) else {
         return output.len();
     };
-    match place_from(output, Mark::Trace, stripes, false) {
+    match place_from(output, LineStart::Trace, stripes, false) {
         Some(place) => place,
         None => output.len(),
     }
@@ -72,7 +72,7 @@ fn trace_place(output: &[u8]) -> usize
 pub(crate) fn parts(input: &[u8]) -> Option<(&[u8], &[u8], &[u8])>
     ensures { Reads (λ x. record { script = x.0.now; report = x.1.now; trace = x.2.now }) result (parts_of input.now) }
 {
-    let place = place_from(input, Mark::Output, 0, true)?;
+    let place = place_from(input, LineStart::Output, 0, true)?;
     let (script, rest) = input.split_at(place);
     let output = strip(rest, b"output\n")?;
     let (report, trace) = output.split_at(trace_place(output));

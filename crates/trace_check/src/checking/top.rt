@@ -5,7 +5,7 @@ ghost use Rattle.std.specs.Io.KnownBytes.{Appends};
 ghost use Rattle.array_journal.specs.declared.entry.Entry.{Entry};
 ghost use Rattle.host_scripts.specs.declared.script.Script.{Script};
 ghost use Rattle.outer_io.specs.Outside.{HasRisen};
-ghost use Rattle.trace_check.specs.declared.checking.findings.Finding.{Finding};
+ghost use Rattle.trace_check.specs.declared.checking.findings.CheckFinding.{CheckFinding};
 ghost use Rattle.trace_check.specs.Findings.{IsAccepted, IsFound};
 ghost use Rattle.program_status.specs.Statuses.{IsOneOf};
 ghost use Rattle.program_status.specs.Stops.{noted_for};
@@ -60,7 +60,7 @@ pub fn check<S: Source, K: Sink, N: Sink>(
         ((result ≡ 0) × Appends (K.written out.old) (K.written out.new) (accepted_line (length journal)))
         ⊎ IsOneOf (3 ∷ 4 ∷ 5 ∷ []) result) }
     ensures finds { AsksCheck (texts words.now) →
-        IfSome (S.left source.old) (λ input. (finding : Finding) → IsFound input finding →
+        IfSome (S.left source.old) (λ input. (finding : CheckFinding) → IsFound input finding →
         ((result ≡ finding_status finding) × Appends (N.written notes.old) (N.written notes.new) (finding_line finding))
         ⊎ IsOneOf (3 ∷ 4 ∷ 5 ∷ []) result) }
     ensures answers_usage { (AsksCheck (texts words.now) → ⊥) → IsOneOf (64 ∷ 4 ∷ []) result }

@@ -5,28 +5,30 @@ ghost use Rattle.array_journal.specs.declared.entry.Entry.{Entry};
 ghost use Rattle.array_journal.specs.Merge.{Rises};
 ghost use Rattle.array_journal.specs.Run.{Run};
 ghost use Rattle.host_scripts.specs.declared.script.Script.{Script};
-ghost use Rattle.host_scripts.specs.Scripts.{IsScript, Spells};
+ghost use Rattle.host_scripts.specs.Scripts.{IsScript, SpellsScript};
 ghost use Rattle.host_scripts.specs.Limits.{limit_of};
 ghost use Rattle.outer_io.specs.Outside.{input_limit};
 ghost use Rattle.stripe_check.specs.Asked.{IsAsked};
-ghost use Rattle.stripe_check.specs.Reports.{setting_of, report_of};
+ghost use Rattle.host_requests.specs.Settings.{setting_of};
+ghost use Rattle.stripe_check.specs.Reports.{report_of};
 ghost use Rattle.trace_check.specs.Findings.{IsFound, IsFoundIn, IsFoundOf, IsRunIn, IsScriptFault, IsTraceFault, IsJournalOf};
 ghost use Rattle.program_status.specs.Words.{texts};
 ghost use Rattle.program_status.specs.Endings.{AfterReading, IsInputTaken};
 ghost use Rattle.trace_check.specs.Endings.{AsksCheck, IsTold, IsRunOf, StopsBy, StopsCheck, StopsFor};
 ghost use Rattle.trace_check.specs.Notes.{accepted_line};
 
-use crate::asking::{asked, setting_of};
-use crate::checking::findings::{Finding, accepted_line};
+use crate::asking::asked;
+use crate::checking::findings::{CheckFinding, accepted_line};
 use crate::checking::lines::{differing_line, line_ends};
 use crate::checking::parting::parts;
-use crate::judging::run_fault;
 use array_journal::Journal;
 use blocks_core::Bytes;
+use host_requests::setting_of;
 use host_scripts::{Cause, Script, ScriptFault, over, parse};
 use journal_text::{TraceFault, read_trace};
 use outer_io::{READ_LIMIT, Source, read_input};
-use program_status::{Stop, found, single_word};
+use program_status::{ProgramStop, found, single_word};
+use run_check::run_fault;
 use std::alloc::Global;
 use stripe_check::report;
 
@@ -46,7 +48,7 @@ pub(crate) fn work<S: Source>(
     alloc: Global,
     words: &[String],
     source: &mut S,
-) -> Result<Bytes, Stop<Finding>>
+) -> Result<Bytes, ProgramStop<CheckFinding>>
     ensures told { IfOk result (λ text. IsTold (texts words.now) (S.left source.old) text) }
     ensures stop { IfErr result (λ stop. StopsFor (texts words.now) (S.left source.old) (S.faults source.old) (S.faults source.new) stop) }
     // The source is read for a check alone.
@@ -57,12 +59,12 @@ pub(crate) fn work<S: Source>(
     if asks_check(words) {
         source_line(alloc, source)
     } else {
-        Err(Stop::Usage)
+        Err(ProgramStop::Usage)
     }
 }
 
 /// The line of the input that the source gives.
-fn source_line<S: Source>(alloc: Global, source: &mut S) -> Result<Bytes, Stop<Finding>>
+fn source_line<S: Source>(alloc: Global, source: &mut S) -> Result<Bytes, ProgramStop<CheckFinding>>
     ensures told { IfOk result (λ text. (entries : ℕ) × (IfSome (S.left source.old) (λ bytes. IsRunOf bytes entries) × (text ≡ accepted_line entries))) }
     ensures stop { IfErr result (λ stop. StopsCheck (S.left source.old) (S.faults source.old) (S.faults source.new) stop) }
     ensures taken { MatchResult result (λ _. IsInputTaken (S.left source.old) (S.left source.new)) (λ stop. AfterReading (IsInputTaken (S.left source.old) (S.left source.new)) stop) }
@@ -72,20 +74,20 @@ fn source_line<S: Source>(alloc: Global, source: &mut S) -> Result<Bytes, Stop<F
 }
 
 /// The line of an input.
-fn input_line(alloc: Global, input: &[u8]) -> Result<Bytes, Stop<Finding>>
+fn input_line(alloc: Global, input: &[u8]) -> Result<Bytes, ProgramStop<CheckFinding>>
     requires { length input.now ≤ input_limit + 1 }
     ensures told { IfOk result (λ text. (entries : ℕ) × (IsRunOf input.now entries × (text ≡ accepted_line entries))) }
     ensures stop { IfErr result (λ stop. StopsBy (IsFound input.now) stop) }
 {
     if input.len() > READ_LIMIT {
-        return Err(found(alloc, Finding::TooLong));
+        return Err(found(alloc, CheckFinding::TooLong));
     }
     let entries = entries_in(alloc, input)?;
     Ok(accepted_line(alloc, entries)?)
 }
 
 /// How many entries the run has that an input has printed.
-fn entries_in(alloc: Global, input: &[u8]) -> Result<u64, Stop<Finding>>
+fn entries_in(alloc: Global, input: &[u8]) -> Result<u64, ProgramStop<CheckFinding>>
     requires { length input.now ≤ input_limit }
     ensures run { IfOk result (λ entries. IsRunOf input.now entries) }
     ensures stop { IfErr result (λ stop. StopsBy (IsFound input.now) stop) }
@@ -93,12 +95,17 @@ fn entries_in(alloc: Global, input: &[u8]) -> Result<u64, Stop<Finding>>
     let cause = Cause::Form;
     match parts(input) {
         Some((script, report, trace)) => entries_of(alloc, script, report, trace),
-        None => Err(found(alloc, Finding::Refused { line: 0, cause })),
+        None => Err(found(alloc, CheckFinding::Refused { line: 0, cause })),
     }
 }
 
 /// How many entries the run has that these parts have printed.
-fn entries_of(alloc: Global, bytes: &[u8], told: &[u8], trace: &[u8]) -> Result<u64, Stop<Finding>>
+fn entries_of(
+    alloc: Global,
+    bytes: &[u8],
+    told: &[u8],
+    trace: &[u8],
+) -> Result<u64, ProgramStop<CheckFinding>>
     requires few { length bytes.now + length told.now + length trace.now ≤ input_limit }
     ensures run { IfOk result (λ entries. (script : Script) × ((journal : List Entry) × (IsRunIn (record { script = bytes.now; report = told.now; trace = trace.now }) script journal × (entries ≡ length journal)))) }
     ensures stop { IfErr result (λ stop. StopsBy (IsFoundIn (record { script = bytes.now; report = told.now; trace = trace.now })) stop) }
@@ -110,35 +117,35 @@ fn entries_of(alloc: Global, bytes: &[u8], told: &[u8], trace: &[u8]) -> Result<
 }
 
 /// The script that bytes spell, within the limits.
-fn script_of(alloc: Global, bytes: &[u8]) -> Result<Script, Stop<Finding>>
+fn script_of(alloc: Global, bytes: &[u8]) -> Result<Script, ProgramStop<CheckFinding>>
     requires { length bytes.now ≤ input_limit }
-    ensures script { IfOk result (λ script. Spells bytes.now script × (limit_of script ≡ None) × (length script.calls < 2 ^ 32)) }
+    ensures script { IfOk result (λ script. SpellsScript bytes.now script × (limit_of script ≡ None) × (length script.calls < 2 ^ 32)) }
     ensures stop { IfErr result (λ stop. StopsBy (IsScriptFault bytes.now) stop) }
 {
     let script = spelt_script(alloc, bytes)?;
     match over(&script) {
         None => Ok(script),
-        Some(limit) => Err(found(alloc, Finding::Over { limit })),
+        Some(limit) => Err(found(alloc, CheckFinding::Over { limit })),
     }
 }
 
 /// The script that bytes spell.
-fn spelt_script(alloc: Global, bytes: &[u8]) -> Result<Script, Stop<Finding>>
+fn spelt_script(alloc: Global, bytes: &[u8]) -> Result<Script, ProgramStop<CheckFinding>>
     requires { length bytes.now ≤ input_limit }
-    ensures script { IfOk result (λ script. Spells bytes.now script × (length script.calls < 2 ^ 32)) }
+    ensures script { IfOk result (λ script. SpellsScript bytes.now script × (length script.calls < 2 ^ 32)) }
     ensures stop { IfErr result (λ stop. StopsBy (IsScriptFault bytes.now) stop) }
 {
     match parse(alloc, bytes) {
         Ok(script) => Ok(script),
         Err(ScriptFault::Refused { line, cause }) => {
-            Err(found(alloc, Finding::Refused { line, cause }))
+            Err(found(alloc, CheckFinding::Refused { line, cause }))
         }
-        Err(ScriptFault::Memory) => Err(Stop::Memory),
+        Err(ScriptFault::Memory) => Err(ProgramStop::Memory),
     }
 }
 
 /// The journal that a trace spells, behind so many lines.
-fn journal_of(alloc: Global, trace: &[u8], ahead: u64) -> Result<Journal, Stop<Finding>>
+fn journal_of(alloc: Global, trace: &[u8], ahead: u64) -> Result<Journal, ProgramStop<CheckFinding>>
     requires few { length trace.now ≤ input_limit }
     requires ahead { ahead ≤ input_limit + 1 }
     ensures journal { IfOk result (λ journal. IsJournalOf trace.now journal) }
@@ -148,11 +155,11 @@ fn journal_of(alloc: Global, trace: &[u8], ahead: u64) -> Result<Journal, Stop<F
         Ok(journal) => Ok(journal),
         Err(TraceFault::Line { line }) => Err(found(
             alloc,
-            Finding::TextLine {
+            CheckFinding::TextLine {
                 line: ahead + u64::from(line),
             },
         )),
-        Err(TraceFault::Memory) => Err(Stop::Memory),
+        Err(TraceFault::Memory) => Err(ProgramStop::Memory),
     }
 }
 
@@ -162,7 +169,7 @@ fn judge_run(
     script: &Script,
     journal: &Journal,
     told: &[u8],
-) -> Result<u64, Stop<Finding>>
+) -> Result<u64, ProgramStop<CheckFinding>>
     requires script { IsScript script.now }
     requires calls { length script.now.calls < 2 ^ 32 }
     requires rises { Rises journal.now }
@@ -172,7 +179,7 @@ fn judge_run(
 {
     match run_fault(alloc, &setting_of(script), journal)? {
         None => judge_asked(alloc, script, journal, told),
-        Some(entry) => Err(found(alloc, Finding::RunEntry { entry })),
+        Some(entry) => Err(found(alloc, CheckFinding::RunEntry { entry })),
     }
 }
 
@@ -182,7 +189,7 @@ fn judge_asked(
     script: &Script,
     journal: &Journal,
     told: &[u8],
-) -> Result<u64, Stop<Finding>>
+) -> Result<u64, ProgramStop<CheckFinding>>
     requires script { IsScript script.now }
     requires calls { length script.now.calls < 2 ^ 32 }
     requires few { length journal.now < 2 ^ 32 }
@@ -193,7 +200,7 @@ fn judge_asked(
     if asked(alloc, script, journal)? {
         judge_report(alloc, script, journal, told)
     } else {
-        Err(found(alloc, Finding::Unasked))
+        Err(found(alloc, CheckFinding::Unasked))
     }
 }
 
@@ -203,7 +210,7 @@ fn judge_report(
     script: &Script,
     journal: &Journal,
     told: &[u8],
-) -> Result<u64, Stop<Finding>>
+) -> Result<u64, ProgramStop<CheckFinding>>
     requires script { IsScript script.now }
     requires run { Run (setting_of script.now) journal.now }
     requires asked { IsAsked script.now journal.now }
@@ -215,5 +222,5 @@ fn judge_report(
         return Ok(journal.len() as u64);
     }
     let line = differing_line(told, text.as_slice());
-    Err(found(alloc, Finding::ReportLine { line }))
+    Err(found(alloc, CheckFinding::ReportLine { line }))
 }

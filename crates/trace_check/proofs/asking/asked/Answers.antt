@@ -3,36 +3,36 @@ use Rattle.std.specs.Prelude.{◌↔◌, IsTrue}
 use Rattle.array_journal.specs.declared.entry.Entry.{Entry}
 use Rattle.array_journal.specs.Run.{NoneOpen}
 use Rattle.stripe_check.specs.Asked.{IsAskedOf, AreServed}
-use Rattle.trace_check.specs.Asking.{AreMarksOf}
-use Rattle.trace_check.specs.declared.asking.call_steps.Mark.{Mark}
-use Rattle.trace_check.proofs.AskingWhole.{asked-decided}
-use Rattle.trace_check.proofs.AskingMarked.{marked-turns, as-many-marks}
+use Rattle.trace_check.specs.EntrySteps.{AreStepsOf}
+use Rattle.trace_check.specs.declared.asking.entry_steps.EntryStep.{EntryStep}
+use Rattle.trace_check.proofs.AskedWhole.{asked-decided}
+use Rattle.trace_check.proofs.AskedOfSteps.{marked-turns, as-many-entry_steps}
 use Rattle.trace_check.proofs.asking.asked.Goals as goal
 
 pub are_served-requires-clause-few : goal.are_served-requires-clause-few
 are_served-requires-clause-few c =
-    let n : length c.as_slice-marks.result.now ≡ length c.args.journal.now
-    = ap (λ (l : List Mark). length l) c.as_slice-marks.ensures.value
-    ∙ as-many-marks c.in_ok-survey.survey.marks.items c.as_slice-entries.result.now c.in_ok-survey.ensures.marks
+    let n : length c.as_slice-entry_steps.result.now ≡ length c.args.journal.now
+    = ap (λ (l : List EntryStep). length l) c.as_slice-entry_steps.ensures.value
+    ∙ as-many-entry_steps c.in_ok-scan.scan.entry_steps.items c.as_slice-entries.result.now c.in_ok-scan.ensures.entry_steps
     ∙ ap (λ (l : List Entry). length l) c.as_slice-entries.ensures in
     subst (λ (x : ℕ). x < 4294967296) (sym n) c.requires.few
 
 pub are_served-requires-clause-marked : goal.are_served-requires-clause-marked
 are_served-requires-clause-marked c =
     let entries = c.as_slice-entries.result.now in
-    let marked = subst (λ (l : List Mark). AreMarksOf (reverse l) (reverse entries)) (sym c.as_slice-marks.ensures.value) c.in_ok-survey.ensures.marks in
-    subst (λ (l : List Entry). AreMarksOf (reverse c.as_slice-marks.result.now) (reverse l)) (sym (c.in_ok-noted.ensures ∙ c.new-past.ensures)) marked
+    let marked = subst (λ (l : List EntryStep). AreStepsOf (reverse l) (reverse entries)) (sym c.as_slice-entry_steps.ensures.value) c.in_ok-scan.ensures.entry_steps in
+    subst (λ (l : List Entry). AreStepsOf (reverse c.as_slice-entry_steps.result.now) l) (sym (c.in_ok-noted.ensures ∙ c.new-past.ensures)) marked
 
 pub returns : goal.returns
 returns c =
     let script = c.args.script.now in
     let entries = c.as_slice-entries.result.now in
-    let survey = c.in_ok-survey.survey in
-    let marked = subst (λ (l : List Mark). AreMarksOf (reverse l) (reverse entries)) (sym c.as_slice-marks.ensures.value) c.in_ok-survey.ensures.marks in
-    let served = subst (λ (l : List Entry). IsTrue c.in_ok-served.served ↔ AreServed script (reverse l) 1 script.calls) (c.in_ok-noted.ensures ∙ c.new-past.ensures) c.in_ok-served.ensures in
-    let closed = subst (λ (l : List Entry). IsTrue c.is_none_open-closed.result ↔ NoneOpen (reverse l)) c.new-past.ensures c.is_none_open-closed.ensures in
+    let scan = c.in_ok-scan.scan in
+    let marked = subst (λ (l : List EntryStep). AreStepsOf (reverse l) (reverse entries)) (sym c.as_slice-entry_steps.ensures.value) c.in_ok-scan.ensures.entry_steps in
+    let served = subst (λ (l : List Entry). IsTrue c.in_ok-served.served ↔ AreServed script l 1 script.calls) (c.in_ok-noted.ensures ∙ c.new-past.ensures) c.in_ok-served.ensures in
+    let closed = subst (λ (l : List Entry). IsTrue c.is_none_open-closed.result ↔ NoneOpen l) c.new-past.ensures c.is_none_open-closed.ensures in
     subst (λ (l : List Entry). IsTrue c.are_all.result ↔ IsAskedOf script (reverse l)) c.as_slice-entries.ensures
     (rw c.are_all.ensures
-    (asked-decided script (reverse entries) c.are_in_turn-in_turn.result c.in_ok-served.served survey.decided survey.owned c.is_none_open-closed.result
-    (marked-turns script c.are_in_turn-in_turn.result (reverse c.as_slice-marks.result.now) (reverse entries) marked c.are_in_turn-in_turn.ensures)
-    served c.in_ok-survey.ensures.decided c.in_ok-survey.ensures.owned closed))
+    (asked-decided script (reverse entries) c.are_in_turn-in_turn.result c.in_ok-served.served scan.decided scan.owned c.is_none_open-closed.result
+    (marked-turns script c.are_in_turn-in_turn.result (reverse c.as_slice-entry_steps.result.now) (reverse entries) marked c.are_in_turn-in_turn.ensures)
+    served c.in_ok-scan.ensures.decided c.in_ok-scan.ensures.owned closed))

@@ -1,8 +1,8 @@
 use Rattle.std.proofs.Common.{ap}
 use Rattle.std.proofs.lemmas.Bool.Decides.{Decides-eqb, Decides-like}
 use Rattle.array_journal.specs.declared.event.Why.{Why}
-use Rattle.trace_check.specs.AskingCauses.{number_of}
-use Rattle.trace_check.proofs.AskingCauses.{plain-one}
+use Rattle.trace_check.specs.CauseNumbers.{number_of}
+use Rattle.trace_check.proofs.CausesTold.{plain-one}
 use Rattle.trace_check.proofs.asking.causes.is_plain.Goals as goal
 
 pub returns : goal.returns

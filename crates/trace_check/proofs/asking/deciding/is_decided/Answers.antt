@@ -1,4 +1,4 @@
-use Rattle.trace_check.proofs.AskingMarked.{begun-as}
+use Rattle.trace_check.proofs.AskedOfSteps.{begun-as}
 use Rattle.trace_check.proofs.asking.deciding.is_decided.Goals as goal
 
 pub returns-in-Refuse : goal.returns-in-Refuse

@@ -6,7 +6,7 @@ use Rattle.trace_check.proofs.checking.parting.place_from.Given as goal
 abbrev pub invariant-loop-place : goal.invariant-loop-place
 invariant-loop-place l = record {
   bound : l.place ≤ length l.bytes;
-  ahead : place_from l.mark l.place l.begins (drop l.place l.bytes) ≡ place_from l.fn.mark l.fn.from l.fn.begins (drop l.fn.from l.fn.bytes);
+  ahead : place_from l.start l.place l.begins (drop l.place l.bytes) ≡ place_from l.fn.start l.fn.from l.fn.begins (drop l.fn.from l.fn.bytes);
 }
 
 abbrev pub decreases-loop-place : goal.decreases-loop-place

@@ -1,6 +1,7 @@
-use Rattle.std.proofs.Common.{ℕ, List, length, ap, arith}
+use Rattle.std.proofs.Common.{rules, ◌≡◌, ℕ, ◌+◌, List, length, ap, arith}
 use Rattle.std.proofs.lemmas.Result.{IfOk-weaker, IfErr-weaker}
-use Rattle.trace_check.proofs.Accepted.{trace-long, found-for}
+use Rattle.trace_check.specs.Findings.{line_ends}
+use Rattle.trace_check.proofs.Accepted.{trace-long, found-for, trace-found}
 use Rattle.program_status.proofs.Endings.{stops-weaker}
 use Rattle.trace_check.proofs.checking.verdict.entries_of.Goals as goal
 
@@ -15,3 +16,9 @@ returns-clause-run c =
 pub returns-clause-stop : goal.returns-clause-stop
 returns-clause-stop c =
     IfErr-weaker c.judge_run.result _ _ (λ stop s. stops-weaker _ _ _ (found-for _ c.in_ok-script.script c.in_ok-journal.journal (record { spelt = c.in_ok-script.ensures.script.0; within = c.in_ok-script.ensures.script.1; traced = c.in_ok-journal.ensures.journal })) stop s) c.judge_run.ensures.stop
+
+pub returns-in_err-journal-clause-stop : goal.returns-in_err-journal-clause-stop
+returns-in_err-journal-clause-stop c =
+    let ahead : c.line_ends.result + 1 + c.line_ends-2.result ≡ line_ends c.args.bytes.now + 1 + line_ends c.args.told.now = omega (arith, c.line_ends.ensures.value, c.line_ends-2.ensures.value) in
+    IfErr-weaker c.from_residual-in_err-journal.result _ _
+    (λ stop s. stops-weaker _ _ _ (trace-found _ c.in_ok-script.script _ c.in_ok-script.ensures.script.0 c.in_ok-script.ensures.script.1 ahead) stop s) (search rules)

@@ -1,0 +1,42 @@
+-- The steps of a journal, read entry by entry.
+use Rattle.std.proofs.Common.{◌≡◌, ℕ, ◌+◌, ◌<◌, List, [], ◌∷◌, ◌++◌, length, take, get_or, reverse, refl, sym, ap, subst, ◌∙◌}
+use Rattle.std.specs.Prelude.{Option}
+use Rattle.std.proofs.lemmas.List.{take_more, reverse-append}
+use Rattle.array_journal.specs.declared.entry.Entry.{Entry}
+use Rattle.stripe_check.specs.Asked.{call_list, calls_seen}
+use Rattle.stripe_check.specs.Steps.{call_of, steps_of, steps_by}
+use Rattle.stripe_check.proofs.Journals.{read_more}
+use Rattle.trace_check.specs.EntrySteps.{IsStepOf, AreStepsOf, steps_in, steps_with, calls_in}
+use Rattle.trace_check.specs.declared.asking.entry_steps.EntryStep.{EntryStep}
+
+pub read_step : (xs : List EntryStep) (k : ℕ) (e : EntryStep) → k < length xs → get_or xs k e ≡ e → reverse (take (k + 1) xs) ≡ e ∷ reverse (take k xs)
+read_step xs k e lt h =
+    ap reverse (take_more xs k e lt) ∙ reverse-append (take k xs) (get_or xs k e ∷ []) ∙ ap (λ x. x ∷ reverse (take k xs)) h
+
+pub entry_steps-more : (ms grown : List EntryStep) (m : EntryStep) (es : List Entry) (k : ℕ) (e : Entry) → k < length es → get_or es k e ≡ e
+    → grown ≡ ms ++ m ∷ [] → IsStepOf m e (reverse (take k es)) → AreStepsOf (reverse ms) (reverse (take k es))
+    → AreStepsOf (reverse grown) (reverse (take (k + 1) es))
+entry_steps-more ms grown m es k e lt is more entry_step before =
+    subst (λ (l : List EntryStep). AreStepsOf (reverse l) (reverse (take (k + 1) es))) (sym more)
+    (subst (λ (l : List EntryStep). AreStepsOf l (reverse (take (k + 1) es))) (sym (reverse-append ms (m ∷ [])))
+    (subst (λ (l : List Entry). AreStepsOf (m ∷ reverse ms) l) (sym (read_more es k e lt is)) (entry_step, before)))
+
+-- the calls of a journal's steps are its calls
+pub marked-calls : (entry_steps : List EntryStep) (past : List Entry) → AreStepsOf entry_steps past → calls_in entry_steps ≡ calls_seen past
+marked-calls [] [] h = refl
+marked-calls [] (e ∷ past) h = absurd h
+marked-calls (entry_step ∷ entry_steps) [] h = absurd h
+marked-calls (entry_step ∷ entry_steps) (e ∷ past) h =
+    ap (λ (o : Option ℕ). call_list o ++ calls_in entry_steps) h.0.of_call ∙ ap (λ l. call_list (call_of e.event past) ++ l) (marked-calls entry_steps past h.1)
+
+-- and the steps of a call are the same
+pub marked-steps : (n : ℕ) (entry_steps : List EntryStep) (past : List Entry) → AreStepsOf entry_steps past → steps_in n entry_steps ≡ steps_of n past
+marked-steps n [] [] h = refl
+marked-steps n [] (e ∷ past) h = absurd h
+marked-steps n (entry_step ∷ entry_steps) [] h = absurd h
+marked-steps n (entry_step ∷ entry_steps) (e ∷ past) h =
+    ap (λ l. l ++ steps_with n entry_step) (marked-steps n entry_steps past h.1)
+    ∙ ap (λ l. steps_of n past ++ l) (same-with n entry_step e past h.0)
+  where
+    same-with : (n : ℕ) (entry_step : EntryStep) (e : Entry) (past : List Entry) → IsStepOf entry_step e past → steps_with n entry_step ≡ steps_by n e past
+    same-with n entry_step e past h = rw h.of_call (rw h.of_step refl)

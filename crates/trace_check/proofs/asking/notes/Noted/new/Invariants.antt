@@ -1,6 +1,0 @@
-use Rattle.std.proofs.Common.{take, reverse}
-use Rattle.trace_check.specs.AskingNotes.{KeepsLives}
-use Rattle.trace_check.proofs.asking.notes.Noted.new.Given as goal
-
-abbrev pub invariant-loop-entry : goal.invariant-loop-entry
-invariant-loop-entry l = KeepsLives (reverse l.entries) (reverse (take l.entry-index l.entries)) l.lives

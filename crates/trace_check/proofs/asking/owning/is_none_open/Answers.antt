@@ -1,6 +1,0 @@
-use Rattle.std.proofs.Common.{reverse}
-use Rattle.array_book.proofs.OpenOnes.{none-open}
-use Rattle.trace_check.proofs.asking.owning.is_none_open.Goals as goal
-
-pub returns : goal.returns
-returns c = none-open (reverse c.args.past.now) c.open_len.result c.open_len.ensures

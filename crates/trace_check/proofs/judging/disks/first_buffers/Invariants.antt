@@ -1,8 +1,0 @@
-use Rattle.std.proofs.Common.{◌≡◌, ◌<◌, ℕ, [], length, get_or}
-use Rattle.trace_check.proofs.judging.disks.first_buffers.Given as goal
-
-abbrev pub invariant-loop : goal.invariant-loop
-invariant-loop l = record {
-  count : length l.buffers.items ≡ l.counter;
-  each : (i : ℕ) → i < l.counter → get_or l.buffers.items i [] ≡ [];
-}

@@ -1,8 +1,0 @@
-use Rattle.std.proofs.Common.{◌≡◌, ℕ, suc, ap, arith, ◌∙◌}
-use Rattle.array_journal.specs.May.{is_own_act}
-use Rattle.trace_check.proofs.judging.naming.is_own_act.Goals as goal
-
-pub returns : goal.returns
-returns c =
-    let e : suc c.from.result ≡ c.args.lock = omega (arith, c.from.ensures) in
-    c.is_own_at.ensures ∙ ap (λ (k : ℕ). is_own_act c.args.setting.now c.args.command c.args.task.now k c.args.event.now) e

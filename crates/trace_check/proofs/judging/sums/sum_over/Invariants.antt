@@ -1,9 +1,0 @@
-use Rattle.std.proofs.Common.{◌≡◌, drop, map, reverse}
-use Rattle.blocks_core.specs.Xor.{xor, xor_all}
-use Rattle.array_journal.specs.May.{bytes_named}
-use Rattle.trace_check.proofs.judging.sums.sum_over.Given as goal
-
-abbrev pub invariant-loop-name : goal.invariant-loop-name
-invariant-loop-name l =
-    xor l.sum (xor_all l.len (map (bytes_named (reverse l.past)) (drop l.name-index l.names)))
-    ≡ xor l.first (xor_all l.len (map (bytes_named (reverse l.past)) l.names))
