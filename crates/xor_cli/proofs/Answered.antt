@@ -9,7 +9,7 @@ use Rattle.array_journal.specs.declared.task.Task.{Task}
 use Rattle.array_journal.specs.Commands.{open_count, task_given, first_task, task_of}
 use Rattle.array_journal.specs.Serving.{open_entry, fetch_entry, close_read_entry, read_entries, diff_entry, take_entry, fold_entry, close_update_entry, update_entries}
 use Rattle.host_scripts.specs.declared.script.Script.{Script}
-use Rattle.stripe_check.specs.Begins.{Opening, begin_of}
+use Rattle.host_requests.specs.Begins.{Opening, begin_of}
 use Rattle.stripe_check.specs.Steps.{Begins, Ends, Done, call_of_command}
 use Rattle.xor_cli.proofs.Going.{Going, going-more}
 

@@ -22,9 +22,9 @@ use Rattle.array_journal.proofs.owed.KeptRuns.{conserved_law}
 use Rattle.array_journal.proofs.calm.Opening.{read-decided, update-decided}
 use Rattle.array_journal.proofs.reads.ReadsRight.{legal_law}
 use Rattle.stripe_check.specs.Asked.{IsAskedOf, IsServed as IsCallServed, goes_back, is_of_host, calls_seen}
-use Rattle.stripe_check.specs.Begins.{Opening}
-use Rattle.stripe_check.specs.Jobs.{job_of, call_at, reading, writing, Transfer}
-use Rattle.stripe_check.specs.Reports.{setting_of}
+use Rattle.host_requests.specs.Begins.{Opening}
+use Rattle.host_requests.specs.Requests.{request_of, call_at, reading, writing, Transfer}
+use Rattle.host_requests.specs.Settings.{setting_of}
 use Rattle.stripe_check.specs.Steps.{Begins, Ends, Done, steps_of}
 use Rattle.stripe_check.proofs.OnePiece.{pieces-one, moved-read, moved-write}
 use Rattle.xor_cli.specs.Arrays.{Array}
@@ -47,8 +47,8 @@ one-piece script number call (actions.Read lba count) can there is spelt fit = (
   reading lba count [],
   record {
     there = there;
-    job = ap (job_of script.geometry) is ∙ moved-read script.geometry lba count fit.within;
-    whole = pieces-one script lba count fit.some fit.most fit.in_unit;
+    job = ap (request_of script.geometry) is ∙ moved-read script.geometry lba count fit.within;
+    whole = pieces-one script lba count fit.some fit.most (omega (arith, fit.some, fit.in_unit));
   },
 )
 one-piece script number call (actions.Write lba bytes) can there is spelt fit =
@@ -57,8 +57,8 @@ one-piece script number call (actions.Write lba bytes) can there is spelt fit =
       writing lba count bytes,
       record {
         there = there;
-        job = ap (job_of script.geometry) is ∙ moved-write script.geometry lba count bytes fit.within whole;
-        whole = pieces-one script lba count fit.some fit.most fit.in_unit;
+        job = ap (request_of script.geometry) is ∙ moved-write script.geometry lba count bytes fit.within whole;
+        whole = pieces-one script lba count fit.some fit.most (omega (arith, fit.some, fit.in_unit));
       },
     )
 one-piece script number call _ can there is spelt fit = absurd fit
@@ -84,8 +84,8 @@ call-goes script old new number call (actions.Read lba count) can same least mos
     let task : Task = read_task script.geometry number lba count in
     let one : IsOnePiece script number call (reading lba count []) = record {
       there = there;
-      job = ap (job_of script.geometry) is ∙ moved-read script.geometry lba count fit.within;
-      whole = pieces-one script lba count fit.some fit.most fit.in_unit;
+      job = ap (request_of script.geometry) is ∙ moved-read script.geometry lba count fit.within;
+      whole = pieces-one script lba count fit.some fit.most (omega (arith, fit.some, fit.in_unit));
     } in
     let begun : IsBegun script number past task = record {
       call = refl;
@@ -104,8 +104,8 @@ call-goes script old new number call (actions.Write lba bytes) can same least mo
     let whole : length bytes ≡ count * script.geometry.block = whole-blocks (length bytes) script.geometry.block can.in_range.geometry.least_block spelt.2.0.1 in
     let one : IsOnePiece script number call (writing lba count bytes) = record {
       there = there;
-      job = ap (job_of script.geometry) is ∙ moved-write script.geometry lba count bytes fit.within whole;
-      whole = pieces-one script lba count fit.some fit.most fit.in_unit;
+      job = ap (request_of script.geometry) is ∙ moved-write script.geometry lba count bytes fit.within whole;
+      whole = pieces-one script lba count fit.some fit.most (omega (arith, fit.some, fit.in_unit));
     } in
     let begun : IsBegun script number past task = record {
       call = refl;
@@ -177,7 +177,7 @@ asked-of script number past can all going closed = record {
   closed = closed;
 }
   where
-    each : (place : ℕ) (call : Call) → slice_get script.calls place ≡ Some call → IsCallServed script past (job_of script.geometry call.action) (steps_of (1 + place) past)
+    each : (place : ℕ) (call : Call) → slice_get script.calls place ≡ Some call → IsCallServed script past (request_of script.geometry call.action) (steps_of (1 + place) past)
     each place call there =
         let own : CanCall script call = all-at (CanCall script) script.calls place call can.calls there in
         let spelt : IsCall script call = all-at (IsCall script) script.calls place call can.in_range.calls there in
@@ -185,7 +185,7 @@ asked-of script number past can all going closed = record {
         let one = one-piece script (suc place) call call.action can there refl spelt.1 own.1 in
         let steps = going.before (suc place) (omega arith) (omega (arith, below, all)) in
         let number : 1 + place ≡ suc place = omega arith in
-        subst (λ (n : ℕ). IsCallServed script past (job_of script.geometry call.action) (steps_of n past)) (sym number)
+        subst (λ (n : ℕ). IsCallServed script past (request_of script.geometry call.action) (steps_of n past)) (sym number)
         (steps-serve script past (suc place) call one.0 steps.0 one.1 steps.1)
 
 -- a controller that served all calls has the journal of the script

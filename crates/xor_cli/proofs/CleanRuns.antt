@@ -2,6 +2,7 @@
 use Rattle.std.specs.Prelude.{◌&&◌}
 use Rattle.std.proofs.Common.{◌≡◌, ℕ, ◌==◌, Bool, true, false, List, [], ◌∷◌, refl, ap, ◌∙◌, cond, Option, None}
 use Rattle.std.specs.List.{AllByRecursion, filter_map, cons_option}
+use Rattle.stripe_layout.specs.Layout.{stripes_of}
 use Rattle.array_journal.specs.declared.entry.Entry.{Entry}
 use Rattle.array_journal.specs.declared.event.Event.{Event}
 use Rattle.array_journal.specs.declared.event.Event.TheVariants.{Fetch, Diff, Take, Fold, Open, Close}
@@ -42,7 +43,7 @@ none-dirty past (stripe ∷ stripes) h =
     ∙ none-dirty past stripes h
 
 pub dirty-calm : (s : Setting) (t c : ℕ) (past : List Entry) → AllByRecursion (IsCalmEntry t c) past → dirty s past ≡ []
-dirty-calm s t c past p = none-dirty past (numbers 0 s.geometry.stripes) (λ stripe. listed_for-calm stripe t c past p)
+dirty-calm s t c past p = none-dirty past (numbers 0 (stripes_of s.geometry)) (λ stripe. listed_for-calm stripe t c past p)
 
 calm-no_loss : (c : ℕ) (e : Event) → IsCalmEvent c e → is_medium_loss e ≡ false
 calm-no_loss c (Fetch command opened cdb row bytes) p = refl

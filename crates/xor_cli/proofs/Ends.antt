@@ -4,23 +4,23 @@ use Rattle.std.specs.Prelude.{IfSome}
 use Rattle.std.specs.Io.KnownBytes.{Appends, IsAtEnd}
 use Rattle.host_scripts.specs.declared.script.Script.{Script}
 use Rattle.array_journal.specs.declared.entry.Entry.{Entry}
-use Rattle.xor_cli.specs.declared.decoding.faults.Fault.{Fault}
-use Rattle.xor_cli.specs.declared.decoding.values.Value.{Value}
+use Rattle.xor_cli.specs.declared.decoding.faults.DecodeFault.{DecodeFault}
+use Rattle.xor_cli.specs.declared.decoding.values.DecodedValue.{DecodedValue}
 use Rattle.xor_cli.specs.declared.refusals.Refusal.{Refusal}
 use Rattle.program_status.specs.declared.notes.Excess.{Excess}
 use Rattle.program_status.specs.declared.notes.Excess.TheVariants as excesses
-use Rattle.program_status.specs.declared.stops.Stop.{Stop}
-use Rattle.program_status.specs.declared.stops.Stop.TheVariants.{Usage, ReadFault, Found, Memory}
+use Rattle.program_status.specs.declared.stops.ProgramStop.{ProgramStop}
+use Rattle.program_status.specs.declared.stops.ProgramStop.TheVariants.{Usage, ReadFault, Found, Memory}
 use Rattle.program_status.specs.Statuses.{IsOneOf, verdict_code, code_of}
 use Rattle.program_status.specs.Stops.{noted_for, note_of, status_of}
 use Rattle.program_status.specs.Notes.{excess_line}
 use Rattle.program_status.specs.Endings.{IsHanded, IsNoted}
 use Rattle.program_status.proofs.Endings.{handed-cut_short, noted-cut_short, noted-other}
-use Rattle.xor_cli.specs.declared.findings.Finding.{Finding}
-use Rattle.xor_cli.specs.declared.findings.Finding.TheVariants.{Refused, Exceeded, Undecodable}
-use Rattle.xor_cli.specs.declared.words.Command.TheVariants.{Step, Decode}
+use Rattle.xor_cli.specs.declared.findings.ToolFinding.{ToolFinding}
+use Rattle.xor_cli.specs.declared.findings.ToolFinding.TheVariants.{Refused, Exceeded, Undecodable}
+use Rattle.xor_cli.specs.declared.words.ToolCommand.TheVariants.{Step, Decode}
 use Rattle.outer_io.specs.Outside.{HasRisen, input_limit}
-use Rattle.xor_cli.specs.Words.{SpellsNone, IsStep, IsCommand}
+use Rattle.xor_cli.specs.Words.{SpellsNoToolCommand, IsStep, IsCommand}
 use Rattle.xor_cli.specs.DecodeTexts.{value_line, fault_line}
 use Rattle.xor_cli.specs.RefusalTexts.{refusal_line}
 use Rattle.xor_cli.specs.Inputs.{IsAccepted, IsRefused, IsLater, IsExcess}
@@ -63,7 +63,7 @@ abbrev pub WrittenOut : ℕ → Option (List ℕ) → Option (List ℕ) → List
 WrittenOut status old new text before after = IsHanded 0 text old new before after status
 
 -- a value's line was handed out
-pub made-decodes : (value : Value) (status : ℕ) (before after : Option (List ℕ)) (rb ra : ℕ) (journal : List Entry) (text : List ℕ) → IsMadeOf value journal text → WrittenOut status before after text rb ra
+pub made-decodes : (value : DecodedValue) (status : ℕ) (before after : Option (List ℕ)) (rb ra : ℕ) (journal : List Entry) (text : List ℕ) → IsMadeOf value journal text → WrittenOut status before after text rb ra
     → ((status ≡ 0) × Appends before after (value_line value)) ⊎ IsOneOf (4 ∷ 5 ∷ []) status
 made-decodes value status before after rb ra journal text made (inl e) = let P : List ℕ → Type 0 = λ t. Appends before after t in inl (e.0, subst P made.1 e.1)
 made-decodes value status before after rb ra journal text made (inr e) = inr (inl e.0)
@@ -95,10 +95,10 @@ made-complete (Some input) before after status sb sa rb ra nb na text (inr e) = 
 -- ---- a command that was stopped
 
 -- what becomes of noting it
-abbrev pub NotedStop : ℕ → Stop Finding → Option (List ℕ) → Option (List ℕ) → ℕ → ℕ → Type 0
+abbrev pub NotedStop : ℕ → ProgramStop ToolFinding → Option (List ℕ) → Option (List ℕ) → ℕ → ℕ → Type 0
 NotedStop status stop old new before after = IsNoted verdict_of stop old new before after status
 
-pub stop-refused : (words : List (List ℕ)) (left : Option (List ℕ)) (before after status : ℕ) (stop : Stop Finding) (old new : Option (List ℕ)) (nb na : ℕ) → StopsFor words left before after stop → NotedStop status stop old new nb na → status ≡ 2 → IsRefusalNoted words left old new
+pub stop-refused : (words : List (List ℕ)) (left : Option (List ℕ)) (before after status : ℕ) (stop : ProgramStop ToolFinding) (old new : Option (List ℕ)) (nb na : ℕ) → StopsFor words left before after stop → NotedStop status stop old new nb na → status ≡ 2 → IsRefusalNoted words left old new
 stop-refused words left before after status Usage old new nb na s (inl e) two = absurd (omega (arith, e.0, two))
 stop-refused words left before after status ReadFault old new nb na s (inl e) two = absurd (omega (arith, e.0, two))
 stop-refused words left before after status (Found (Refused refusal) note) old new nb na s (inl e) two = (note, (inl (refusal, (s.0.0, s.0.1, s.1)), e.1))
@@ -107,7 +107,7 @@ stop-refused words left before after status (Found (Undecodable fault) note) old
 stop-refused words left before after status Memory old new nb na s (inl e) two = absurd (omega (arith, e.0, two))
 stop-refused words left before after status stop old new nb na s (inr e) two = absurd (omega (arith, e.0, two))
 
-pub stop-exceeded : (words : List (List ℕ)) (left : Option (List ℕ)) (before after status : ℕ) (stop : Stop Finding) (old new : Option (List ℕ)) (nb na : ℕ) → StopsFor words left before after stop → NotedStop status stop old new nb na → status ≡ 7 → IsExcessNoted words left old new
+pub stop-exceeded : (words : List (List ℕ)) (left : Option (List ℕ)) (before after status : ℕ) (stop : ProgramStop ToolFinding) (old new : Option (List ℕ)) (nb na : ℕ) → StopsFor words left before after stop → NotedStop status stop old new nb na → status ≡ 7 → IsExcessNoted words left old new
 stop-exceeded words left before after status Usage old new nb na s (inl e) seven = absurd (omega (arith, e.0, seven))
 stop-exceeded words left before after status ReadFault old new nb na s (inl e) seven = absurd (omega (arith, e.0, seven))
 stop-exceeded words left before after status (Found (Refused refusal) note) old new nb na s (inl e) seven = absurd (omega (arith, e.0, seven))
@@ -117,7 +117,7 @@ stop-exceeded words left before after status (Found (Undecodable fault) note) ol
 stop-exceeded words left before after status Memory old new nb na s (inl e) seven = absurd (omega (arith, e.0, seven))
 stop-exceeded words left before after status stop old new nb na s (inr e) seven = absurd (omega (arith, e.0, seven))
 
-pub stop-no_other : (status : ℕ) (stop : Stop Finding) (old new : Option (List ℕ)) (nb na : ℕ) → NotedStop status stop old new nb na → IsOneOf (0 ∷ 2 ∷ 3 ∷ 4 ∷ 5 ∷ 7 ∷ 64 ∷ []) status
+pub stop-no_other : (status : ℕ) (stop : ProgramStop ToolFinding) (old new : Option (List ℕ)) (nb na : ℕ) → NotedStop status stop old new nb na → IsOneOf (0 ∷ 2 ∷ 3 ∷ 4 ∷ 5 ∷ 7 ∷ 64 ∷ []) status
 stop-no_other status Usage old new nb na (inl e) = inr (inr (inr (inr (inr (inr (inl e.0))))))
 stop-no_other status ReadFault old new nb na (inl e) = inr (inr (inl e.0))
 stop-no_other status (Found (Refused refusal) note) old new nb na (inl e) = inr (inl e.0)
@@ -128,18 +128,18 @@ stop-no_other status stop old new nb na (inr e) = inr (inr (inr (inl e.0)))
 
 -- ---- an input that is accepted
 
-no-command : (words : List (List ℕ)) → SpellsNone words → IsCommand words → ⊥
+no-command : (words : List (List ℕ)) → SpellsNoToolCommand words → IsCommand words → ⊥
 no-command words none (command, spelt) = none command spelt
 
 step-command : (words : List (List ℕ)) → IsStep words → IsCommand words
 step-command words (traced, spelt) = (Step traced, spelt)
 
 -- words that ask for a run don't ask what bytes are
-step-undecodable : (words : List (List ℕ)) (left : Option (List ℕ)) (fault : Fault) → IsStep words → IsFoundBy words left (Undecodable fault) → ⊥
+step-undecodable : (words : List (List ℕ)) (left : Option (List ℕ)) (fault : DecodeFault) → IsStep words → IsFoundBy words left (Undecodable fault) → ⊥
 step-undecodable words left fault w (format, (bytes, has)) = step-apart words format bytes w has.command
 
 -- where an input that is accepted was to be run, a stop is a read fault or want of memory
-stop-accepted : (words : List (List ℕ)) (input : List ℕ) (before after status : ℕ) (stop : Stop Finding) (old new : Option (List ℕ)) (nb na : ℕ) (script : Script) → IsStep words → IsAccepted input script → StopsFor words (Some input) before after stop → NotedStop status stop old new nb na → ((status ≡ 3) × HasRisen before after) ⊎ (((status ≡ 4) × HasRisen nb na) ⊎ (status ≡ 5))
+stop-accepted : (words : List (List ℕ)) (input : List ℕ) (before after status : ℕ) (stop : ProgramStop ToolFinding) (old new : Option (List ℕ)) (nb na : ℕ) (script : Script) → IsStep words → IsAccepted input script → StopsFor words (Some input) before after stop → NotedStop status stop old new nb na → ((status ≡ 3) × HasRisen before after) ⊎ (((status ≡ 4) × HasRisen nb na) ⊎ (status ≡ 5))
 stop-accepted words input before after status stop old new nb na script w accepted s (inr e) = inr (inl (e.0, e.1))
 stop-accepted words input before after status Usage old new nb na script w accepted s (inl e) = absurd (no-command words s (step-command words w))
 stop-accepted words input before after status ReadFault old new nb na script w accepted s (inl e) = inl (e.0, s.1)
@@ -153,7 +153,7 @@ three-of before after nb na status (inl e) = inr (inl e.0)
 three-of before after nb na status (inr (inl e)) = inr (inr (inl e.0))
 three-of before after nb na status (inr (inr e)) = inr (inr (inr (inl e)))
 
-pub stop-runs : (words : List (List ℕ)) (left : Option (List ℕ)) (before after status : ℕ) (stop : Stop Finding) (old new : Option (List ℕ)) (nb na : ℕ) → StopsFor words left before after stop → NotedStop status stop old new nb na → IsStep words → IfSome left (λ input. (script : Script) → IsAccepted input script → IsOneOf (0 ∷ 3 ∷ 4 ∷ 5 ∷ []) status)
+pub stop-runs : (words : List (List ℕ)) (left : Option (List ℕ)) (before after status : ℕ) (stop : ProgramStop ToolFinding) (old new : Option (List ℕ)) (nb na : ℕ) → StopsFor words left before after stop → NotedStop status stop old new nb na → IsStep words → IfSome left (λ input. (script : Script) → IsAccepted input script → IsOneOf (0 ∷ 3 ∷ 4 ∷ 5 ∷ []) status)
 stop-runs words None before after status stop old new nb na s e w = tt
 stop-runs words (Some input) before after status stop old new nb na s e w = λ script accepted. three-of before after nb na status (stop-accepted words input before after status stop old new nb na script w accepted s e)
 
@@ -163,7 +163,7 @@ unrisen before after nb na status read note (inl e) = absurd (read e.1)
 unrisen before after nb na status read note (inr (inl e)) = absurd (note e.1)
 unrisen before after nb na status read note (inr (inr e)) = inr (inl e)
 
-pub stop-complete : (words : List (List ℕ)) (left : Option (List ℕ)) (before after out status : ℕ) (stop : Stop Finding) (old new : Option (List ℕ)) (nb na : ℕ) → StopsFor words left before after stop → NotedStop status stop old new nb na → IsStep words
+pub stop-complete : (words : List (List ℕ)) (left : Option (List ℕ)) (before after out status : ℕ) (stop : ProgramStop ToolFinding) (old new : Option (List ℕ)) (nb na : ℕ) → StopsFor words left before after stop → NotedStop status stop old new nb na → IsStep words
     → IfSome left (λ input. (script : Script) → IsAccepted input script → ¬ HasRisen before after → ¬ HasRisen out out → ¬ HasRisen nb na → IsOneOf (0 ∷ 5 ∷ []) status)
 stop-complete words None before after out status stop old new nb na s e w = tt
 stop-complete words (Some input) before after out status stop old new nb na s e w = λ script accepted read written note.
@@ -171,7 +171,7 @@ stop-complete words (Some input) before after out status stop old new nb na s e 
 
 -- ---- an input that is refused
 
-pub stop-refuses : (words : List (List ℕ)) (left : Option (List ℕ)) (before after status : ℕ) (stop : Stop Finding) (old new : Option (List ℕ)) (nb na : ℕ) → StopsFor words left before after stop → NotedStop status stop old new nb na → IsStep words
+pub stop-refuses : (words : List (List ℕ)) (left : Option (List ℕ)) (before after status : ℕ) (stop : ProgramStop ToolFinding) (old new : Option (List ℕ)) (nb na : ℕ) → StopsFor words left before after stop → NotedStop status stop old new nb na → IsStep words
     → IfSome left (λ input. (refusal : Refusal) → IsRefused input refusal → ((status ≡ 2) × Appends old new (refusal_line refusal)) ⊎ IsOneOf (3 ∷ 4 ∷ 5 ∷ []) status)
 stop-refuses words None before after status stop old new nb na s e w = tt
 stop-refuses words (Some input) before after status stop old new nb na s (inr e) w = λ refusal refused. inr (inr (inl e.0))
@@ -191,7 +191,7 @@ later-refuses (Some input) status old new h = λ line later. h (later_refusal li
 
 -- ---- an input with too much of something
 
-pub stop-limits : (words : List (List ℕ)) (left : Option (List ℕ)) (before after status : ℕ) (stop : Stop Finding) (old new : Option (List ℕ)) (nb na : ℕ) → StopsFor words left before after stop → NotedStop status stop old new nb na → IsStep words
+pub stop-limits : (words : List (List ℕ)) (left : Option (List ℕ)) (before after status : ℕ) (stop : ProgramStop ToolFinding) (old new : Option (List ℕ)) (nb na : ℕ) → StopsFor words left before after stop → NotedStop status stop old new nb na → IsStep words
     → IfSome left (λ input. (excess : Excess) → IsExcess input excess → ((status ≡ 7) × Appends old new (excess_line excess)) ⊎ IsOneOf (3 ∷ 4 ∷ 5 ∷ []) status)
 stop-limits words None before after status stop old new nb na s e w = tt
 stop-limits words (Some input) before after status stop old new nb na s (inr e) w = λ excess is. inr (inr (inl e.0))
@@ -206,24 +206,24 @@ stop-limits words (Some input) before after status Memory old new nb na s (inl e
 -- ---- bytes to decode
 
 -- where a value was to be decoded, only want of memory stops it
-pub stop-decodes : (value : Value) (status : ℕ) (stop : Stop Finding) (old new before after : Option (List ℕ)) (nb na : ℕ) → stop ≡ Memory → NotedStop status stop old new nb na → ((status ≡ 0) × Appends before after (value_line value)) ⊎ IsOneOf (4 ∷ 5 ∷ []) status
-stop-decodes value status stop old new before after nb na m (inl e) = let P : Stop Finding → Type 0 = λ x. status ≡ code_of (status_of verdict_of x) in inr (inr (inl (subst P m e.0)))
+pub stop-decodes : (value : DecodedValue) (status : ℕ) (stop : ProgramStop ToolFinding) (old new before after : Option (List ℕ)) (nb na : ℕ) → stop ≡ Memory → NotedStop status stop old new nb na → ((status ≡ 0) × Appends before after (value_line value)) ⊎ IsOneOf (4 ∷ 5 ∷ []) status
+stop-decodes value status stop old new before after nb na m (inl e) = let P : ProgramStop ToolFinding → Type 0 = λ x. status ≡ code_of (status_of verdict_of x) in inr (inr (inl (subst P m e.0)))
 stop-decodes value status stop old new before after nb na m (inr e) = inr (inl e.0)
 
 -- where bytes have a fault, the stop says it, unless memory is wanting
-pub stop-faults : (fault : Fault) (status : ℕ) (stop : Stop Finding) (old new : Option (List ℕ)) (nb na : ℕ) → IsStopOf (Undecodable fault) stop → NotedStop status stop old new nb na → ((status ≡ 2) × Appends old new (fault_line fault)) ⊎ IsOneOf (4 ∷ 5 ∷ []) status
+pub stop-faults : (fault : DecodeFault) (status : ℕ) (stop : ProgramStop ToolFinding) (old new : Option (List ℕ)) (nb na : ℕ) → IsStopOf (Undecodable fault) stop → NotedStop status stop old new nb na → ((status ≡ 2) × Appends old new (fault_line fault)) ⊎ IsOneOf (4 ∷ 5 ∷ []) status
 stop-faults fault status stop old new nb na s (inr e) = inr (inl e.0)
 stop-faults fault status stop old new nb na (inl r) (inl e) =
-    let P : Stop Finding → Type 0 = λ x. (status ≡ code_of (status_of verdict_of x)) × Appends old new (note_of x) in inl (subst P r e)
-stop-faults fault status stop old new nb na (inr m) (inl e) = let P : Stop Finding → Type 0 = λ x. status ≡ code_of (status_of verdict_of x) in inr (inr (inl (subst P m e.0)))
+    let P : ProgramStop ToolFinding → Type 0 = λ x. (status ≡ code_of (status_of verdict_of x)) × Appends old new (note_of x) in inl (subst P r e)
+stop-faults fault status stop old new nb na (inr m) (inl e) = let P : ProgramStop ToolFinding → Type 0 = λ x. status ≡ code_of (status_of verdict_of x) in inr (inr (inl (subst P m e.0)))
 
-pub stop-decodes_complete : (status : ℕ) (stop : Stop Finding) (old new : Option (List ℕ)) (nb na : ℕ) → stop ≡ Memory → NotedStop status stop old new nb na → ¬ HasRisen nb na → IsOneOf (0 ∷ 5 ∷ []) status
-stop-decodes_complete status stop old new nb na m (inl e) note = let P : Stop Finding → Type 0 = λ x. status ≡ code_of (status_of verdict_of x) in inr (inl (subst P m e.0))
+pub stop-decodes_complete : (status : ℕ) (stop : ProgramStop ToolFinding) (old new : Option (List ℕ)) (nb na : ℕ) → stop ≡ Memory → NotedStop status stop old new nb na → ¬ HasRisen nb na → IsOneOf (0 ∷ 5 ∷ []) status
+stop-decodes_complete status stop old new nb na m (inl e) note = let P : ProgramStop ToolFinding → Type 0 = λ x. status ≡ code_of (status_of verdict_of x) in inr (inl (subst P m e.0))
 stop-decodes_complete status stop old new nb na m (inr e) note = absurd (note e.1)
 
 -- ---- words that are no command
 
-pub stop-answers_usage : (words : List (List ℕ)) (left : Option (List ℕ)) (before after status : ℕ) (stop : Stop Finding) (old new : Option (List ℕ)) (nb na : ℕ) → StopsFor words left before after stop → NotedStop status stop old new nb na → SpellsNone words → IsOneOf (64 ∷ 4 ∷ []) status
+pub stop-answers_usage : (words : List (List ℕ)) (left : Option (List ℕ)) (before after status : ℕ) (stop : ProgramStop ToolFinding) (old new : Option (List ℕ)) (nb na : ℕ) → StopsFor words left before after stop → NotedStop status stop old new nb na → SpellsNoToolCommand words → IsOneOf (64 ∷ 4 ∷ []) status
 stop-answers_usage words left before after status stop old new nb na s (inr e) none = inr (inl e.0)
 stop-answers_usage words left before after status Usage old new nb na s (inl e) none = inl e.0
 stop-answers_usage words left before after status ReadFault old new nb na s (inl e) none = absurd (no-command words none (step-command words s.0))
@@ -234,12 +234,12 @@ stop-answers_usage words left before after status Memory old new nb na s (inl e)
 
 -- ---- what is noted of a stop that is neither a refusal nor a limit
 
-neither : (status : ℕ) → status ≢ 2 → status ≢ 7 → (finding : Finding) → status ≢ verdict_code (verdict_of finding)
+neither : (status : ℕ) → status ≢ 2 → status ≢ 7 → (finding : ToolFinding) → status ≢ verdict_code (verdict_of finding)
 neither status two seven (Refused refusal) = two
 neither status two seven (Exceeded excess) = seven
 neither status two seven (Undecodable fault) = two
 
-pub stop-noted : (status : ℕ) (stop : Stop Finding) (old new : Option (List ℕ)) (nb na : ℕ) → NotedStop status stop old new nb na → status ≢ 2 → status ≢ 7 → status ≢ 4 → Appends old new (noted_for status)
+pub stop-noted : (status : ℕ) (stop : ProgramStop ToolFinding) (old new : Option (List ℕ)) (nb na : ℕ) → NotedStop status stop old new nb na → status ≢ 2 → status ≢ 7 → status ≢ 4 → Appends old new (noted_for status)
 stop-noted status stop old new nb na e two seven four = noted-other verdict_of stop old new nb na status e four (neither status two seven)
 
 -- ---- what is read, and what is noted where that fails
@@ -257,7 +257,7 @@ not-read status n e zero two seven (inr (inr (inl a))) = seven (sym e ∙ a)
 not-read status n e zero two seven (inr (inr (inr none))) = absurd none
 
 -- where an input that isn't too long was to be run, a stop with these statuses leaves nothing of it
-stop-whole : (words : List (List ℕ)) (input : List ℕ) (rest : Option (List ℕ)) (before after status : ℕ) (stop : Stop Finding) (old new : Option (List ℕ)) (nb na : ℕ) → IsStep words → StopsFor words (Some input) before after stop → IsLeftBy stop rest → NotedStop status stop old new nb na
+stop-whole : (words : List (List ℕ)) (input : List ℕ) (rest : Option (List ℕ)) (before after status : ℕ) (stop : ProgramStop ToolFinding) (old new : Option (List ℕ)) (nb na : ℕ) → IsStep words → StopsFor words (Some input) before after stop → IsLeftBy stop rest → NotedStop status stop old new nb na
     → IsOneOf (0 ∷ 2 ∷ 7 ∷ []) status → length input ≤ input_limit → IsAtEnd rest
 stop-whole words input rest before after status Usage old new nb na w s left (inl e) one short = absurd (not-read status 64 e.0 (λ a. cc a) (λ a. cc a) (λ a. cc a) one)
 stop-whole words input rest before after status ReadFault old new nb na w s left (inl e) one short = absurd (not-read status 3 e.0 (λ a. cc a) (λ a. cc a) (λ a. cc a) one)
@@ -268,11 +268,11 @@ stop-whole words input rest before after status (Found (Undecodable fault) note)
 stop-whole words input rest before after status Memory old new nb na w s left (inl e) one short = absurd (not-read status 5 e.0 (λ a. cc a) (λ a. cc a) (λ a. cc a) one)
 stop-whole words input rest before after status stop old new nb na w s left (inr e) one short = absurd (not-read status 4 e.0 (λ a. cc a) (λ a. cc a) (λ a. cc a) one)
 
-pub stop-read_whole : (words : List (List ℕ)) (left rest : Option (List ℕ)) (before after status : ℕ) (stop : Stop Finding) (old new : Option (List ℕ)) (nb na : ℕ) → IsStep words → StopsFor words left before after stop → IsLeftBy stop rest → NotedStop status stop old new nb na
+pub stop-read_whole : (words : List (List ℕ)) (left rest : Option (List ℕ)) (before after status : ℕ) (stop : ProgramStop ToolFinding) (old new : Option (List ℕ)) (nb na : ℕ) → IsStep words → StopsFor words left before after stop → IsLeftBy stop rest → NotedStop status stop old new nb na
     → IsOneOf (0 ∷ 2 ∷ 7 ∷ []) status → IfSome left (λ input. length input ≤ input_limit → IsAtEnd rest)
 stop-read_whole words None rest before after status stop old new nb na w s by e one = tt
 stop-read_whole words (Some input) rest before after status stop old new nb na w s by e one = stop-whole words input rest before after status stop old new nb na w s by e one
 
-pub stop-cut_short : (words : List (List ℕ)) (left : Option (List ℕ)) (before after status : ℕ) (stop : Stop Finding) (old new : Option (List ℕ)) (nb na : ℕ) → StopsFor words left before after stop → NotedStop status stop old new nb na → status ≡ 4
+pub stop-cut_short : (words : List (List ℕ)) (left : Option (List ℕ)) (before after status : ℕ) (stop : ProgramStop ToolFinding) (old new : Option (List ℕ)) (nb na : ℕ) → StopsFor words left before after stop → NotedStop status stop old new nb na → status ≡ 4
     → HasRisen nb na × IsNoteCutShort words left before after old new
 stop-cut_short words left before after status stop old new nb na s e four = let cut = noted-cut_short verdict_of stop old new nb na status e four in (cut.0, (stop, (s, cut.1)))

@@ -1,13 +1,12 @@
 -- The calls of a script that can be run so far are served at once.
-use Rattle.std.specs.Prelude.{nat_lt, ◌/◌, ◌%◌}
-use Rattle.std.proofs.Common.{◌≡◌, ◌≢◌, ℕ, suc, ◌+◌, ◌-◌, ◌*◌, ◌<◌, ◌≤◌, Bool, true, false, List, [], ◌∷◌, length, refl, ap, sym, ◌∙◌, subst, arith, cond, add-zero, get_or, zero, replicate}
+use Rattle.std.specs.Prelude.{◌/◌, ◌%◌}
+use Rattle.std.proofs.Common.{◌≡◌, ◌≢◌, ℕ, suc, ◌+◌, ◌*◌, ◌<◌, ◌≤◌, List, [], ◌∷◌, length, refl, ap, sym, ◌∙◌, subst, arith, add-zero, get_or, zero, replicate}
 use Rattle.std.specs.List.{AllByRecursion}
 use Rattle.std.proofs.lemmas.List.{get_or-replicate, length-replicate}
 use Rattle.blocks_core.specs.Xor.{zeros}
 use Rattle.std.proofs.lemmas.Nat.{div-add-mod'}
-use Rattle.std.proofs.Math.Nat.{div-lt_iff_lt-mul, mod-lt, mul_comm, mul_assoc}
 use Rattle.stripe_layout.specs.declared.geometry.Geometry.{Geometry}
-use Rattle.stripe_layout.specs.Layout.{IsArray, rows_of, capacity_of, stripe_of, unit_of, target_of, parity_of}
+use Rattle.stripe_layout.specs.Layout.{rows_of, capacity_of, stripe_of, unit_of, target_of, parity_of, room_in_unit}
 use Rattle.host_scripts.specs.declared.script.Script.{Script}
 use Rattle.host_scripts.specs.declared.script.Call.{Call}
 use Rattle.host_scripts.specs.declared.script.Action.{Action}
@@ -20,56 +19,42 @@ use Rattle.array_journal.specs.May.{IsTask, IsTaskOfKind}
 use Rattle.array_journal.specs.declared.entry.Entry.{Entry}
 use Rattle.array_journal.specs.Run.{IsSetting}
 use Rattle.array_journal.proofs.calm.CalmServed.{calm-none}
-use Rattle.array_journal.proofs.sums.LayoutLaws.{target_of-other}
+use Rattle.stripe_layout.proofs.PlaceLaws.{unit_of-below, offset-below, room-is, row_of-stripe}
+use Rattle.stripe_layout.proofs.PlaceRuns.{most-room, target_of-below, target_of-other}
 use Rattle.xor_cli.specs.Tasks.{task_at, CanServe}
 use Rattle.xor_cli.proofs.Today.{CanRun, CanCall, CanDo}
 use Rattle.xor_cli.specs.Disks.{Disk}
 use Rattle.xor_cli.specs.Rest.{IsRest}
-use Rattle.stripe_check.specs.Reports.{setting_of}
+use Rattle.host_requests.specs.Settings.{setting_of}
 use Rattle.xor_cli.specs.Headline.{IsStart}
-
--- a block below the capacity is in a stripe of the array
-stripe-below : (lba stripes unit data_units : ℕ) → 0 < unit → 0 < data_units → lba < stripes * unit * data_units → lba / unit / data_units < stripes
-stripe-below lba stripes unit data_units u d h =
-    let whole : stripes * data_units * unit ≡ stripes * unit * data_units =
-    mul_assoc stripes data_units unit ∙ ap (λ n. stripes * n) (mul_comm data_units unit) ∙ sym (mul_assoc stripes unit data_units) in
-    let P : ℕ → Type 0 = λ n. lba < n in
-    let unit_below : lba / unit < stripes * data_units = (div-lt_iff_lt-mul {k = unit} {x = lba} {y = stripes * data_units} u).1 (subst P (sym whole) h) in
-    (div-lt_iff_lt-mul {k = data_units} {x = lba / unit} {y = stripes} d).1 unit_below
-
--- a data unit's target is one of the array's
-target-below : (x p n : ℕ) → x < n - 1 → cond (nat_lt x p) x (x + 1) < n
-target-below x p n h = by_test (nat_lt x p)
-  where
-    by_test : (b : Bool) → cond b x (x + 1) < n
-    by_test true = omega arith
-    by_test false = omega arith
 
 -- what a task at a block of the array owes besides its kind
 pub task-sound : (s : Setting) (number : ℕ) (kind : Kind) (lba count : ℕ) (bytes : List ℕ) → IsSetting s → lba < capacity_of s.geometry → 1 ≤ count →
-    lba % s.geometry.unit + count ≤ s.geometry.unit → IsTaskOfKind s (task_at s.geometry number kind lba count bytes) kind →
+    count ≤ room_in_unit s.geometry lba → IsTaskOfKind s (task_at s.geometry number kind lba count bytes) kind →
     IsTask s (task_at s.geometry number kind lba count bytes)
 task-sound s number kind lba count bytes setting below some fits by_kind =
     let g : Geometry = s.geometry in
-    let a : IsArray g = setting.array in
-    let unit : 0 < g.unit = a.least_unit in
-    let data_units : 0 < g.targets - 1 = omega (arith, a.least_targets) in
+    let row = row_of-stripe g lba setting.array below in
     record {
-      in_array = stripe-below lba g.stripes g.unit (g.targets - 1) unit data_units below;
+      in_array = row.in_array;
       parity = refl;
-      target = target-below (unit_of g lba) (parity_of g (stripe_of g lba)) g.targets (mod-lt (lba / g.unit) data_units);
+      target = target_of-below g (stripe_of g lba) (unit_of g lba) setting.array (unit_of-below g lba setting.array below);
       some_rows = some;
-      from_stripe = omega arith;
-      to_stripe = omega (arith, fits);
+      from_stripe = row.first;
+      to_stripe = omega (arith, fits, room-is g lba setting.array below, offset-below g lba setting.array below);
       by_kind = by_kind;
     }
+
+-- blocks in one unit fit in the buffer
+unit-fits : (s : Setting) (lba count : ℕ) → IsSetting s → lba < capacity_of s.geometry → count ≤ room_in_unit s.geometry lba → count ≤ s.buffer
+unit-fits s lba count setting below fits = omega (arith, fits, most-room s.geometry lba setting.array below, setting.least_buffer)
 
 pub script_setting : (script : Script) → IsScript script → IsSetting (setting_of script)
 script_setting script is = record { array = is.geometry; least_buffer = is.least_buffer; most_buffer = is.most_buffer }
 
 -- a block's target isn't its parity target
 target-apart : (script : Script) (lba : ℕ) → target_of script.geometry lba ≢ parity_of script.geometry (stripe_of script.geometry lba)
-target-apart script lba = target_of-other (parity_of script.geometry (stripe_of script.geometry lba)) (unit_of script.geometry lba)
+target-apart script lba = target_of-other script.geometry (stripe_of script.geometry lba) (unit_of script.geometry lba)
 
 -- whole blocks are as many as their bytes have
 pub whole-blocks : (len block : ℕ) → 0 < block → len % block ≡ 0 → len ≡ len / block * block
@@ -83,7 +68,7 @@ can-serve script number (actions.Read lba count) is whole can = (
   record {
     sound = task-sound (setting_of script) number Read lba count [] (script_setting script is) (omega (arith, can.within, can.some)) can.some can.in_unit
         (target-apart script lba, refl);
-    fits = omega (arith, can.in_unit, is.least_buffer);
+    fits = unit-fits (setting_of script) lba count (script_setting script is) (omega (arith, can.within, can.some)) can.in_unit;
   },
 )
 can-serve script number (actions.Write lba bytes) is whole can =
@@ -93,7 +78,7 @@ can-serve script number (actions.Write lba bytes) is whole can =
       record {
         sound = task-sound (setting_of script) number Update lba (length bytes / script.geometry.block) bytes (script_setting script is) (omega (arith, can.within, can.some))
             can.some can.in_unit (target-apart script lba, blocks);
-        fits = omega (arith, can.in_unit, is.least_buffer);
+        fits = unit-fits (setting_of script) lba (length bytes / script.geometry.block) (script_setting script is) (omega (arith, can.within, can.some)) can.in_unit;
       },
     )
 can-serve script number _ is whole can = absurd can

@@ -4,7 +4,7 @@ use Rattle.host_scripts.specs.declared.script.Script.{Script}
 use Rattle.host_scripts.specs.declared.script.Cause.{Cause}
 use Rattle.host_scripts.specs.declared.script.Cause.TheVariants as causes
 use Rattle.host_scripts.specs.declared.script.Limit.{Limit}
-use Rattle.host_scripts.specs.Scripts.{Spells}
+use Rattle.host_scripts.specs.Scripts.{SpellsScript}
 use Rattle.host_scripts.specs.Limits.{limit_of}
 use Rattle.host_scripts.proofs.Again.{script-again}
 use Rattle.host_scripts.proofs.OneRefusal.{one-refusal}
@@ -20,7 +20,7 @@ use Rattle.xor_cli.specs.Inputs.{IsAccepted, IsUnspelt, IsRefusedFor, IsRefused,
 use Rattle.xor_cli.specs.Statuses.{later_refusal}
 
 -- bytes spell one script at most
-pub same-script : (input : List ℕ) (a b : Script) → Spells input a → Spells input b → a ≡ b
+pub same-script : (input : List ℕ) (a b : Script) → SpellsScript input a → SpellsScript input b → a ≡ b
 same-script input a b f g = let e : Ok a ≡ Ok b = sym (script-again input a f) ∙ script-again input b g in cc e
 
 -- an input that is refused isn't too long
@@ -31,13 +31,13 @@ refused-bound input number reasons.Size h = h.0
 refused-bound input number reasons.Later h = h.1.0.0
 
 -- a script that is run has no line that waits for later, nor too much of anything
-later-none : (input : List ℕ) (script other : Script) (number : ℕ) → Spells input script → Spells input other → first_later script ≡ None → first_later other ≡ Some number → ⊥
+later-none : (input : List ℕ) (script other : Script) (number : ℕ) → SpellsScript input script → SpellsScript input other → first_later script ≡ None → first_later other ≡ Some number → ⊥
 later-none input script other number f g none some =
     let same : script ≡ other = same-script input script other f g in
     let clash : None ≡ Some number = sym none ∙ ap first_later same ∙ some in
     cc clash
 
-limit-none : (input : List ℕ) (script other : Script) (limit : Limit) → Spells input script → Spells input other → limit_of script ≡ None → limit_of other ≡ Some limit → ⊥
+limit-none : (input : List ℕ) (script other : Script) (limit : Limit) → SpellsScript input script → SpellsScript input other → limit_of script ≡ None → limit_of other ≡ Some limit → ⊥
 limit-none input script other limit f g none some =
     let same : script ≡ other = same-script input script other f g in
     let clash : None ≡ Some limit = sym none ∙ ap limit_of same ∙ some in

@@ -1,16 +1,16 @@
 -- A script no line of which waits for later can be run.
-use Rattle.std.proofs.Common.{◌≡◌, ◌+◌, ◌/◌, ◌%◌, ◌==◌, ◌&&◌, nat_le, not, cond, ℕ, suc, Bool, true, false, List, [], ◌∷◌, length, Option, Some, None, refl, arith}
+use Rattle.std.proofs.Common.{◌≡◌, ◌+◌, ◌/◌, ◌==◌, ◌&&◌, nat_le, not, cond, ℕ, suc, Bool, true, false, List, [], ◌∷◌, length, Option, Some, None, refl, arith}
 use Rattle.std.specs.List.{AllByRecursion}
 use Rattle.std.proofs.lemmas.Bool.{and_parts, leb-true, eqb-true, not-false}
-use Rattle.stripe_layout.specs.Layout.{capacity_of}
+use Rattle.stripe_layout.specs.Layout.{capacity_of, room_in_unit}
 use Rattle.stripe_layout.specs.declared.mode.Mode.{Mode}
 use Rattle.stripe_layout.specs.declared.mode.Mode.TheVariants.{Supervised, ThirdParty, Readback}
 use Rattle.host_scripts.specs.declared.script.Script.{Script}
 use Rattle.host_scripts.specs.declared.script.Call.{Call}
 use Rattle.host_scripts.specs.declared.script.Action.{Action}
 use Rattle.host_scripts.specs.declared.script.Action.TheVariants.{Read, Write, Fill, Raw, Lose, Reset, DropNext, Replace, Rebuild, Resync}
-use Rattle.stripe_check.specs.Cuts.{most_blocks}
-use Rattle.stripe_check.specs.Reports.{setting_of}
+use Rattle.host_requests.specs.Settings.{most_blocks}
+use Rattle.host_requests.specs.Settings.{setting_of}
 use Rattle.xor_cli.specs.Inputs.{IsRunnable}
 use Rattle.xor_cli.specs.Headline.{IsStart}
 use Rattle.xor_cli.specs.Unsupported.{can_serve_in, is_one_piece, can_do, can_call, later_call}
@@ -23,14 +23,14 @@ left-none false n other e = (refl, e)
 
 one-piece : (s : Script) (lba count : ℕ) → is_one_piece s lba count ≡ true → AreOnePiece s lba count
 one-piece s lba count e =
-    let a = and_parts (nat_le 1 count && nat_le count (most_blocks s) && nat_le (lba % s.geometry.unit + count) s.geometry.unit) (nat_le (lba + count) (capacity_of s.geometry)) e in
-    let b = and_parts (nat_le 1 count && nat_le count (most_blocks s)) (nat_le (lba % s.geometry.unit + count) s.geometry.unit) a.0 in
+    let a = and_parts (nat_le 1 count && nat_le count (most_blocks s) && nat_le (lba + count) (capacity_of s.geometry)) (nat_le count (room_in_unit s.geometry lba)) e in
+    let b = and_parts (nat_le 1 count && nat_le count (most_blocks s)) (nat_le (lba + count) (capacity_of s.geometry)) a.0 in
     let c = and_parts (nat_le 1 count) (nat_le count (most_blocks s)) b.0 in
     record {
       some = leb-true 1 count c.0;
       most = leb-true count (most_blocks s) c.1;
-      in_unit = leb-true (lba % s.geometry.unit + count) s.geometry.unit b.1;
-      within = leb-true (lba + count) (capacity_of s.geometry) a.1;
+      in_unit = leb-true count (room_in_unit s.geometry lba) a.1;
+      within = leb-true (lba + count) (capacity_of s.geometry) b.1;
     }
 
 do-today : (s : Script) (action : Action) → can_do s action ≡ true → CanDo s action
@@ -71,7 +71,8 @@ unordered (h ∷ hosts) e = let none : length (h ∷ hosts) ≡ 0 = eqb-true (le
 
 pub runs-today : (s : Script) → IsRunnable s → CanRun s
 runs-today s is =
-    let mode = left-none (not (can_serve_in s.mode)) 8 _ is.2 in
+    let version = left-none (not (s.version == 1)) 1 _ is.2 in
+    let mode = left-none (not (can_serve_in s.mode)) 8 _ version.1 in
     let turns = left-none (not (length s.order == 0)) 11 _ mode.1 in
     record {
       in_range = is.0;
@@ -83,5 +84,6 @@ runs-today s is =
 -- its array is one in which the controller moves the deltas
 pub starts-today : (s : Script) → IsRunnable s → IsStart (setting_of s)
 starts-today s is =
-    let mode = left-none (not (can_serve_in s.mode)) 8 _ is.2 in
+    let version = left-none (not (s.version == 1)) 1 _ is.2 in
+    let mode = left-none (not (can_serve_in s.mode)) 8 _ version.1 in
     (record { array = is.0.geometry; least_buffer = is.0.least_buffer; most_buffer = is.0.most_buffer }, supervised s.mode mode.0)

@@ -1,7 +1,7 @@
 -- A controller that served a read.
 use Rattle.std.proofs.Common.{◌≡◌, ℕ, ◌+◌, ◌*◌, ◌<◌, true, List, [], ◌∷◌, reverse, None, refl, ap, sym, ◌∙◌, subst, add-one, inl}
 use Rattle.sbc_cdbs.specs.declared.descriptor.Cdb.{Cdb}
-use Rattle.sbc_cdbs.specs.Cdbs.{cdb_bytes, Spells}
+use Rattle.sbc_cdbs.specs.Cdbs.{cdb_bytes, SpellsCdb}
 use Rattle.array_journal.specs.declared.at.At.{At}
 use Rattle.array_journal.specs.declared.entry.Entry.{Entry}
 use Rattle.array_journal.specs.declared.event.Event.TheVariants.{Fetch, Open, Close}
@@ -10,7 +10,8 @@ use Rattle.array_journal.specs.declared.task.Task.{Task}
 use Rattle.array_journal.specs.declared.task.Kind.TheVariants.{Read}
 use Rattle.blocks_core.specs.Lists.{slice}
 use Rattle.array_journal.specs.Commands.{open_count}
-use Rattle.array_journal.specs.Acts.{Fetches, cdb_of}
+use Rattle.array_journal.specs.declared.act.Act.TheVariants.{Fetches}
+use Rattle.array_journal.specs.Acts.{cdb_of}
 use Rattle.array_journal.specs.Media.{media}
 use Rattle.array_journal.specs.Calm.{Calm}
 use Rattle.array_journal.specs.Serving.{read_entries}
@@ -62,7 +63,7 @@ read-journal old task cdb rest below =
 
 -- the controller is at rest again
 pub read-served : (old : Array) (task : Task) (cdb : Cdb) → IsAtRest old → IsServable old.setting task → task.kind ≡ Read →
-    Spells (cdb_bytes cdb) (cdb_of old.setting task 0 Fetches) → IsServed old (after_read old task cdb) task
+    SpellsCdb (cdb_bytes cdb) (cdb_of old.setting task 0 Fetches) → IsServed old (after_read old task cdb) task
 read-served old task cdb rest can kind spelt =
     let journal : reverse (after_read old task cdb).journal ≡ read_entries old.setting (reverse old.journal) task cdb =
     read-journal old task cdb rest can.sound.target in

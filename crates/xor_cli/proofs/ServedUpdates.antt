@@ -3,7 +3,7 @@ use Rattle.std.proofs.Common.{◌≡◌, ◌≢◌, ℕ, ◌+◌, ◌*◌, ◌<�
 use Rattle.std.proofs.lemmas.Bool.{cases_eq}
 use Rattle.blocks_core.specs.Xor.{xor}
 use Rattle.sbc_cdbs.specs.declared.descriptor.Cdb.{Cdb}
-use Rattle.sbc_cdbs.specs.Cdbs.{cdb_bytes, Spells}
+use Rattle.sbc_cdbs.specs.Cdbs.{cdb_bytes, SpellsCdb}
 use Rattle.array_journal.specs.declared.at.At.{At}
 use Rattle.array_journal.specs.declared.entry.Entry.{Entry}
 use Rattle.array_journal.specs.declared.setting.Setting.{Setting}
@@ -11,7 +11,8 @@ use Rattle.array_journal.specs.declared.task.Task.{Task}
 use Rattle.array_journal.specs.declared.task.Kind.TheVariants.{Update}
 use Rattle.blocks_core.specs.Lists.{slice, put}
 use Rattle.array_journal.specs.Commands.{open_count}
-use Rattle.array_journal.specs.Acts.{Diffs, Takes, Folds, cdb_of}
+use Rattle.array_journal.specs.declared.act.Act.TheVariants.{Diffs, Takes, Folds}
+use Rattle.array_journal.specs.Acts.{cdb_of}
 use Rattle.array_journal.specs.Media.{media}
 use Rattle.array_journal.specs.Calm.{Calm}
 use Rattle.array_journal.specs.Serving.{update_entries, update_delta}
@@ -72,9 +73,9 @@ pub record IsUpdated (old new : Array) (task : Task) (diff take fold : Cdb) (j1 
   pub disks : new.disks ≡ updated_disks old.disks task.target task.parity (task.row * old.setting.geometry.block) task.bytes delta
 
 pub record AreSpelt (s : Setting) (task : Task) (diff take fold : Cdb) : Type 0 where
-  pub diffs : Spells (cdb_bytes diff) (cdb_of s task 0 Diffs)
-  pub takes : Spells (cdb_bytes take) (cdb_of s task 0 Takes)
-  pub folds : Spells (cdb_bytes fold) (cdb_of s task 0 Folds)
+  pub diffs : SpellsCdb (cdb_bytes diff) (cdb_of s task 0 Diffs)
+  pub takes : SpellsCdb (cdb_bytes take) (cdb_of s task 0 Takes)
+  pub folds : SpellsCdb (cdb_bytes fold) (cdb_of s task 0 Folds)
 
 -- the controller is at rest again
 pub update-served : (old new : Array) (task : Task) (diff take fold : Cdb) (j1 j2 j3 j4 : List Entry) (differed taken folded : At) (delta : List ℕ) →

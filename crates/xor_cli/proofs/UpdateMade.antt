@@ -1,6 +1,6 @@
 -- What the steps of an update come to.
 use Rattle.std.proofs.lemmas.List.{length-set}
-use Rattle.std.proofs.Common.{◌≡◌, ◌≢◌, ℕ, ◌+◌, ◌*◌, ◌<◌, true, false, List, [], ◌∷◌, length, reverse, None, refl, ap, sym, ◌∙◌, subst, arith}
+use Rattle.std.proofs.Common.{◌≡◌, ◌≢◌, ℕ, ◌+◌, ◌*◌, ◌<◌, ◌^◌, true, false, List, [], ◌∷◌, length, reverse, None, refl, ap, sym, ◌∙◌, subst, arith}
 use Rattle.blocks_core.specs.Xor.{xor}
 use Rattle.sbc_cdbs.specs.declared.descriptor.Cdb.{Cdb}
 use Rattle.stripe_layout.specs.declared.mode.Mode.{Mode}
@@ -12,9 +12,9 @@ use Rattle.array_journal.specs.declared.task.Task.{Task}
 use Rattle.array_journal.specs.declared.task.Kind.TheVariants.{Update}
 use Rattle.blocks_core.specs.Lists.{slice}
 use Rattle.stripe_layout.specs.Layout.{parity_of}
-use Rattle.sbc_cdbs.specs.declared.commands.Command.TheVariants as sbc
-use Rattle.sbc_cdbs.specs.Cdbs.{Spells}
-use Rattle.array_journal.specs.Acts.{task_bytes, diff_command, cdb_of, Diffs}
+use Rattle.sbc_cdbs.specs.Cdbs.{Fits}
+use Rattle.array_journal.specs.declared.act.Act.TheVariants.{Diffs}
+use Rattle.array_journal.specs.Acts.{task_bytes, diff_command, cdb_of}
 use Rattle.array_journal.specs.May.{IsTask}
 use Rattle.array_journal.specs.Serving.{update_delta}
 use Rattle.array_journal.proofs.calm.UpdateRuns.{CanUpdate, update-task, length-update_delta}
@@ -165,9 +165,8 @@ update-made old m1 m2 m3 m4 new task v diff take fold bytes delta differed taken
           ∙ ap (λ (ds : List Disk). with_fold ds task.parity (task.row * old.setting.geometry.block) delta) (taken-disks old m1 m2 m3 task v diff take bytes delta differed taken t);
     }
 
--- in supervised mode a diff's CDB is an XDWRITE
-pub diff-spelt : (s : Setting) (task : Task) (bytes : List ℕ) → s.mode ≡ Supervised →
-    Spells bytes (sbc.XdWrite false false false task.row task.count) → Spells bytes (cdb_of s task 0 Diffs)
-diff-spelt s task bytes supervised spelt =
-    let P : Mode → Type 0 = λ mode. Spells bytes (diff_command mode task) in
-    subst P (sym supervised) spelt
+-- in supervised mode the numbers of a diff's command fit where the task's do
+pub diff-fits : (s : Setting) (task : Task) → s.mode ≡ Supervised → (task.row < 2 ^ 32) × (task.count < 2 ^ 16) → Fits (cdb_of s task 0 Diffs)
+diff-fits s task supervised fits =
+    let P : Mode → Type 0 = λ mode. Fits (diff_command mode task) in
+    subst P (sym supervised) fits

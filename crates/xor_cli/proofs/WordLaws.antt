@@ -8,9 +8,9 @@ use Rattle.std.proofs.lemmas.Slice.Eq.{bytes_eq-Decides}
 use Rattle.text_fields.specs.Spelling.{hex}
 use Rattle.xor_cli.specs.declared.decoding.values.Format.{Format}
 use Rattle.xor_cli.specs.declared.decoding.values.Format.TheVariants as formats
-use Rattle.xor_cli.specs.declared.words.Command.{Command}
-use Rattle.xor_cli.specs.declared.words.Command.TheVariants.{Step, Decode}
-use Rattle.xor_cli.specs.Words.{format_words, IsFormat, IsData, Spells, SpellsNone, IsStep, IsCommand}
+use Rattle.xor_cli.specs.declared.words.ToolCommand.{ToolCommand}
+use Rattle.xor_cli.specs.declared.words.ToolCommand.TheVariants.{Step, Decode}
+use Rattle.xor_cli.specs.Words.{format_words, IsFormat, IsData, SpellsToolCommand, SpellsNoToolCommand, IsStep, IsCommand}
 use Rattle.xor_cli.specs.WordReading.{◌>>=◌, flag_of, number_of, hex_of, params_at, named, format_at, last_at, decode_at, step_at, command_at}
 use Rattle.xor_cli.proofs.Digits.{hex-takes, hex-again, number-takes, number-again}
 
@@ -48,7 +48,7 @@ again-decode : (format : Format) (bytes : List ℕ) → IsFormat format → IsDa
 unfolding decode_at
 again-decode format bytes f h = rw (again-format format bytes f h) (again-last format bytes h)
 
-pub command-again : (words : List (List ℕ)) (command : Command) → Spells words command → command_at words ≡ Some command
+pub command-again : (words : List (List ℕ)) (command : ToolCommand) → SpellsToolCommand words command → command_at words ≡ Some command
 unfolding command_at
 command-again words (Step false) e = rw e refl
 command-again words (Step true) e = rw e refl
@@ -110,7 +110,7 @@ unfolding format_at
 format-takes [] x e = absurd cc
 format-takes (name ∷ rest) x e = named-takes name rest x e
 
-last-takes : (format : Format) (words : List (List ℕ)) (command : Command) → last_at format words ≡ Some command → (bytes : List ℕ) × ((Decode format bytes ≡ command) × (words ≡ hex bytes ∷ []) × IsData bytes)
+last-takes : (format : Format) (words : List (List ℕ)) (command : ToolCommand) → last_at format words ≡ Some command → (bytes : List ℕ) × ((Decode format bytes ≡ command) × (words ≡ hex bytes ∷ []) × IsData bytes)
 unfolding last_at
 last-takes format [] command e = absurd cc
 last-takes format (word ∷ []) command e =
@@ -119,32 +119,32 @@ last-takes format (word ∷ []) command e =
     (h.0, (same_Some (Decode format h.0) command h.1.1, ap (λ (w : List ℕ). w ∷ []) t.0, t.1))
 last-takes format (word ∷ (other ∷ rest)) command e = absurd cc
 
-decode-takes : (words : List (List ℕ)) (command : Command) → decode_at words ≡ Some command → Spells (codes "decode" ∷ words) command
+decode-takes : (words : List (List ℕ)) (command : ToolCommand) → decode_at words ≡ Some command → SpellsToolCommand (codes "decode" ∷ words) command
 unfolding decode_at
 decode-takes words command e =
     let f = bind-some (format_at words) (λ format. last_at format.0 format.1) command e in
     let n = format-takes words f.0 f.1.0 in
     let l = last-takes f.0.0 f.0.1 command f.1.1 in
     let whole : codes "decode" ∷ words ≡ codes "decode" ∷ (format_words f.0.0 ++ hex l.0 ∷ []) = ap (λ (w : List (List ℕ)). codes "decode" ∷ w) (n.0 ∙ ap (λ (w : List (List ℕ)). format_words f.0.0 ++ w) l.1.1) in
-    subst (Spells (codes "decode" ∷ words)) l.1.0 (whole, n.1, l.1.2)
+    subst (SpellsToolCommand (codes "decode" ∷ words)) l.1.0 (whole, n.1, l.1.2)
 
-step-takes : (words : List (List ℕ)) (command : Command) → step_at words ≡ Some command → Spells (codes "step" ∷ words) command
-step-takes [] command e = subst (Spells (codes "step" ∷ [])) (same_Some (Step false) command e) refl
+step-takes : (words : List (List ℕ)) (command : ToolCommand) → step_at words ≡ Some command → SpellsToolCommand (codes "step" ∷ words) command
+step-takes [] command e = subst (SpellsToolCommand (codes "step" ∷ [])) (same_Some (Step false) command e) refl
 step-takes (word ∷ []) command e = elim (chosen (bytes_eq word (codes "--trace")) _ _ (Some command) e) [
   | inl traced ↦
-      let P : List ℕ → Type 0 = λ t. Spells (codes "step" ∷ t ∷ []) command in
-      subst P (sym (same-text word (codes "--trace") traced.0)) (subst (Spells (codes "step" ∷ codes "--trace" ∷ [])) (same_Some (Step true) command traced.1) refl)
+      let P : List ℕ → Type 0 = λ t. SpellsToolCommand (codes "step" ∷ t ∷ []) command in
+      subst P (sym (same-text word (codes "--trace") traced.0)) (subst (SpellsToolCommand (codes "step" ∷ codes "--trace" ∷ [])) (same_Some (Step true) command traced.1) refl)
   | inr none ↦ absurd (let no : None ≡ Some command = none.1 in cc no)
 ]
 step-takes (word ∷ (other ∷ rest)) command e = absurd cc
 
-pub command-takes : (words : List (List ℕ)) (command : Command) → command_at words ≡ Some command → Spells words command
+pub command-takes : (words : List (List ℕ)) (command : ToolCommand) → command_at words ≡ Some command → SpellsToolCommand words command
 unfolding command_at
 command-takes [] command e = absurd cc
 command-takes (verb ∷ rest) command e = elim (chosen (bytes_eq verb (codes "step")) _ _ (Some command) e) [
-  | inl step ↦ let P : List ℕ → Type 0 = λ t. Spells (t ∷ rest) command in subst P (sym (same-text verb (codes "step") step.0)) (step-takes rest command step.1)
+  | inl step ↦ let P : List ℕ → Type 0 = λ t. SpellsToolCommand (t ∷ rest) command in subst P (sym (same-text verb (codes "step") step.0)) (step-takes rest command step.1)
   | inr e ↦ elim (chosen (bytes_eq verb (codes "decode")) _ _ (Some command) e.1) [
-    | inl decode ↦ let P : List ℕ → Type 0 = λ t. Spells (t ∷ rest) command in subst P (sym (same-text verb (codes "decode") decode.0)) (decode-takes rest command decode.1)
+    | inl decode ↦ let P : List ℕ → Type 0 = λ t. SpellsToolCommand (t ∷ rest) command in subst P (sym (same-text verb (codes "decode") decode.0)) (decode-takes rest command decode.1)
     | inr e ↦ absurd (let no : None ≡ Some command = e.1 in cc no)
   ]
 ]
@@ -152,36 +152,36 @@ command-takes (verb ∷ rest) command e = elim (chosen (bytes_eq verb (codes "st
 -- ---- one command
 
 -- words spell one command at most
-pub one-command : (words : List (List ℕ)) (a b : Command) → Spells words a → Spells words b → a ≡ b
+pub one-command : (words : List (List ℕ)) (a b : ToolCommand) → SpellsToolCommand words a → SpellsToolCommand words b → a ≡ b
 one-command words a b sa sb = same_Some a b (sym (command-again words a sa) ∙ command-again words b sb)
 
 -- words of a run aren't words of a decoding
-pub step-apart : (words : List (List ℕ)) (format : Format) (bytes : List ℕ) → IsStep words → Spells words (Decode format bytes) → ⊥
+pub step-apart : (words : List (List ℕ)) (format : Format) (bytes : List ℕ) → IsStep words → SpellsToolCommand words (Decode format bytes) → ⊥
 step-apart words format bytes (traced, s) d = let e : Step traced ≡ Decode format bytes = one-command words (Step traced) (Decode format bytes) s d in cc e
 
 -- the decoding that words spell is the one that was read
-pub same-decode : (found : Option Command) (inner : Command) (f g : Format) (a b : List ℕ) → found ≡ Some inner → inner ≡ Decode g b → found ≡ Some (Decode f a) → (f ≡ g) × (a ≡ b)
+pub same-decode : (found : Option ToolCommand) (inner : ToolCommand) (f g : Format) (a b : List ℕ) → found ≡ Some inner → inner ≡ Decode g b → found ≡ Some (Decode f a) → (f ≡ g) × (a ≡ b)
 same-decode found inner f g a b read is spelt =
     let e : Decode f a ≡ Decode g b = same_Some (Decode f a) inner (sym spelt ∙ read) ∙ is in
     (cc e, cc e)
 
 -- words that are read as no command spell no decoding
-pub unread-decode : (found : Option Command) (f : Format) (a : List ℕ) → found ≡ None → found ≡ Some (Decode f a) → ⊥
+pub unread-decode : (found : Option ToolCommand) (f : Format) (a : List ℕ) → found ≡ None → found ≡ Some (Decode f a) → ⊥
 unread-decode found f a none spelt = let e : None ≡ Some (Decode f a) = sym none ∙ spelt in cc e
 
 -- what was read says what is spelt
-pub command-found : (words : List (List ℕ)) (found : Option Command) → found ≡ command_at words → MatchOption found (SpellsNone words) (λ command. Spells words command)
+pub command-found : (words : List (List ℕ)) (found : Option ToolCommand) → found ≡ command_at words → MatchOption found (SpellsNoToolCommand words) (λ command. SpellsToolCommand words command)
 command-found words None e = λ command s. let no : None ≡ Some command = e ∙ command-again words command s in cc no
 command-found words (Some command) e = command-takes words command (sym e)
 
 command-some : (words : List (List ℕ)) → IsSome (command_at words) → IsCommand words
 command-some words h = some-case (command_at words) refl h
   where
-    some-case : (o : Option Command) → command_at words ≡ o → IsSome o → IsCommand words
+    some-case : (o : Option ToolCommand) → command_at words ≡ o → IsSome o → IsCommand words
     some-case (Some command) e h = (command, command-takes words command e)
     some-case None e h = cc h
 
 -- want of memory comes only for words that are read as a command
-pub command-memory : {E : Type 0} (words : List (List ℕ)) (r : Result (Option Command) E) → OnErr r (IsSome (command_at words)) → OnErr r (IsCommand words)
+pub command-memory : {E : Type 0} (words : List (List ℕ)) (r : Result (Option ToolCommand) E) → OnErr r (IsSome (command_at words)) → OnErr r (IsCommand words)
 command-memory words (Ok found) h = tt
 command-memory words (Err e) h = command-some words h

@@ -8,21 +8,21 @@ use Rattle.host_scripts.specs.declared.script.Cause.{Cause}
 use Rattle.host_scripts.specs.declared.script.Cause.TheVariants as causes
 use Rattle.host_scripts.specs.Limits.{limit_of}
 use Rattle.host_scripts.specs.Refusals.{IsRefusal}
-use Rattle.program_status.specs.declared.stops.Stop.{Stop}
-use Rattle.program_status.specs.declared.stops.Stop.TheVariants.{Usage, ReadFault, Found, Memory}
-use Rattle.xor_cli.specs.declared.findings.Finding.{Finding}
-use Rattle.xor_cli.specs.declared.findings.Finding.TheVariants.{Refused, Exceeded, Undecodable}
-use Rattle.xor_cli.specs.declared.decoding.faults.Fault.{Fault}
+use Rattle.program_status.specs.declared.stops.ProgramStop.{ProgramStop}
+use Rattle.program_status.specs.declared.stops.ProgramStop.TheVariants.{Usage, ReadFault, Found, Memory}
+use Rattle.xor_cli.specs.declared.findings.ToolFinding.{ToolFinding}
+use Rattle.xor_cli.specs.declared.findings.ToolFinding.TheVariants.{Refused, Exceeded, Undecodable}
+use Rattle.xor_cli.specs.declared.decoding.faults.DecodeFault.{DecodeFault}
 use Rattle.xor_cli.specs.declared.decoding.values.Format.{Format}
-use Rattle.xor_cli.specs.declared.decoding.values.Value.{Value}
+use Rattle.xor_cli.specs.declared.decoding.values.DecodedValue.{DecodedValue}
 use Rattle.xor_cli.specs.declared.refusals.Reason.{Reason}
 use Rattle.xor_cli.specs.declared.refusals.Refusal.{Refusal}
 use Rattle.program_status.specs.declared.notes.Excess.{Excess}
 use Rattle.program_status.specs.declared.notes.Excess.TheVariants as excesses
-use Rattle.xor_cli.specs.declared.words.Command.TheVariants.{Step}
+use Rattle.xor_cli.specs.declared.words.ToolCommand.TheVariants.{Step}
 use Rattle.xor_cli.specs.Decoding.{IsValue, IsFault}
 use Rattle.xor_cli.specs.RefusalTexts.{reason_of}
-use Rattle.xor_cli.specs.Words.{Spells}
+use Rattle.xor_cli.specs.Words.{SpellsToolCommand}
 use Rattle.xor_cli.specs.Unsupported.{first_later}
 use Rattle.xor_cli.specs.Inputs.{IsSpelt, IsAccepted, IsRefused, IsExcess}
 use Rattle.outer_io.specs.Outside.{input_limit}
@@ -52,20 +52,20 @@ excess-left (Some all) bytes excesses.Input e is = let n : length bytes ≡ leng
 excess-left (Some all) bytes (excesses.Script limit) e is = left-whole (Some all) bytes (λ b. IsExcess b (excesses.Script limit)) is.1.0.0 e is
 
 -- what is found of the bytes that were read is found of all that the source had
-found-left : (left : Option (List ℕ)) (bytes : List ℕ) (finding : Finding) → IfSome left (λ all. bytes ≡ take (input_limit + 1) all) → IsFoundIn bytes finding → IsFoundAhead left finding
+found-left : (left : Option (List ℕ)) (bytes : List ℕ) (finding : ToolFinding) → IfSome left (λ all. bytes ≡ take (input_limit + 1) all) → IsFoundIn bytes finding → IsFoundAhead left finding
 found-left left bytes (Refused refusal) e is = refused-left left bytes refusal e is
 found-left left bytes (Exceeded excess) e is = excess-left left bytes excess e is
 found-left left bytes (Undecodable fault) e is = absurd is
 
 -- what stops a run of the bytes that were read stops a run of the source
-pub stops-step : (left : Option (List ℕ)) (bytes : List ℕ) (before after : ℕ) (stop : Stop Finding) → IfSome left (λ all. bytes ≡ take (input_limit + 1) all) → StopsRun bytes stop → StopsStep left before after stop
+pub stops-step : (left : Option (List ℕ)) (bytes : List ℕ) (before after : ℕ) (stop : ProgramStop ToolFinding) → IfSome left (λ all. bytes ≡ take (input_limit + 1) all) → StopsRun bytes stop → StopsStep left before after stop
 stops-step left bytes before after Usage e s = absurd s
 stops-step left bytes before after ReadFault e s = absurd s
 stops-step left bytes before after (Found finding note) e s = (found-left left bytes finding e s.0, s.1)
 stops-step left bytes before after Memory e s = tt
 
 -- where the bytes that were read aren't too many, they are all that the source had; what stops a run of them leaves nothing
-pub stops-left : (left : Option (List ℕ)) (bytes : List ℕ) (stop : Stop Finding) → (length bytes ≤ input_limit → IsAtEnd left) → StopsRun bytes stop → IsLeftBy stop left
+pub stops-left : (left : Option (List ℕ)) (bytes : List ℕ) (stop : ProgramStop ToolFinding) → (length bytes ≤ input_limit → IsAtEnd left) → StopsRun bytes stop → IsLeftBy stop left
 stops-left left bytes Usage end s = tt
 stops-left left bytes ReadFault end s = tt
 stops-left left bytes (Found (Refused refusal) note) end s = end (refused-bound bytes refusal.line refusal.reason s.0)
@@ -75,7 +75,7 @@ stops-left left bytes (Found (Undecodable fault) note) end s = tt
 stops-left left bytes Memory end s = tt
 
 -- what stops a run of the source stops the command
-pub stops-for : (words : List (List ℕ)) (traced : Bool) (left : Option (List ℕ)) (before after : ℕ) (stop : Stop Finding) → Spells words (Step traced) → StopsStep left before after stop → StopsFor words left before after stop
+pub stops-for : (words : List (List ℕ)) (traced : Bool) (left : Option (List ℕ)) (before after : ℕ) (stop : ProgramStop ToolFinding) → SpellsToolCommand words (Step traced) → StopsStep left before after stop → StopsFor words left before after stop
 stops-for words traced left before after Usage w s = absurd s
 stops-for words traced left before after ReadFault w s = ((traced, w), s)
 stops-for words traced left before after (Found (Refused refusal) note) w s = (((traced, w), s.0), s.1)
@@ -91,7 +91,7 @@ unspelt-refused input number causes.Form bound r = (bound, r)
 unspelt-refused input number causes.Range bound r = (bound, r)
 unspelt-refused input number causes.Size bound r = (bound, r)
 
-pub stop-unspelt : (input : List ℕ) (number other : ℕ) (cause : Cause) (reason : Reason) (stop : Stop Finding) → length input ≤ input_limit → IsRefusal input number cause → other ≡ number → reason ≡ reason_of cause → IsStopOf (Refused (record { line = other; reason = reason })) stop → StopsRun input stop
+pub stop-unspelt : (input : List ℕ) (number other : ℕ) (cause : Cause) (reason : Reason) (stop : ProgramStop ToolFinding) → length input ≤ input_limit → IsRefusal input number cause → other ≡ number → reason ≡ reason_of cause → IsStopOf (Refused (record { line = other; reason = reason })) stop → StopsRun input stop
 stop-unspelt input number other cause reason stop bound r n c (inl e) =
     let P : ℕ → Type 0 = λ m. IsRefused input (record { line = m; reason = reason_of cause }) in
     let Q : Reason → Type 0 = λ x. IsRefused input (record { line = other; reason = x }) in
@@ -100,12 +100,12 @@ stop-unspelt input number other cause reason stop bound r n c (inl e) =
 stop-unspelt input number other cause reason stop bound r n c (inr e) = subst (StopsRun input) (sym e) tt
 
 -- so does a line that can't be run yet
-pub stop-later : (script : Script) (number : ℕ) (stop : Stop Finding) → limit_of script ≡ None → first_later script ≡ Some number → IsStopOf (Refused (later_refusal number)) stop → StopsScript script stop
+pub stop-later : (script : Script) (number : ℕ) (stop : ProgramStop ToolFinding) → limit_of script ≡ None → first_later script ≡ Some number → IsStopOf (Refused (later_refusal number)) stop → StopsScript script stop
 stop-later script number stop over later (inl e) = subst (StopsScript script) (sym e) ((number, (over, later, refl)), refl)
 stop-later script number stop over later (inr e) = subst (StopsScript script) (sym e) tt
 
 -- what stops a script stops its bytes
-pub stop-script : (input : List ℕ) (script : Script) (stop : Stop Finding) → IsSpelt input script → StopsScript script stop → StopsRun input stop
+pub stop-script : (input : List ℕ) (script : Script) (stop : ProgramStop ToolFinding) → IsSpelt input script → StopsScript script stop → StopsRun input stop
 stop-script input script Usage spelt s = absurd s
 stop-script input script ReadFault spelt s = absurd s
 stop-script input script (Found (Refused refusal) note) spelt (found, said) =
@@ -118,13 +118,13 @@ stop-script input script Memory spelt s = tt
 -- ---- decoding
 
 -- a value of bytes in a format is one of the same bytes in the same format
-pub value-moved : (f g : Format) (a b c : List ℕ) (value : Value) → (f ≡ g) × (a ≡ b) → c ≡ b → IsValue f a value → IsValue g c value
+pub value-moved : (f g : Format) (a b c : List ℕ) (value : DecodedValue) → (f ≡ g) × (a ≡ b) → c ≡ b → IsValue f a value → IsValue g c value
 value-moved f g a b c value same slice is =
     let P : List ℕ → Type 0 = λ x. IsValue f x value in
     let Q : Format → Type 0 = λ x. IsValue x c value in
     subst Q same.0 (subst P (same.1 ∙ sym slice) is)
 
-pub fault-moved : (f g : Format) (a b c : List ℕ) (fault : Fault) → (f ≡ g) × (a ≡ b) → c ≡ b → IsFault f a fault → IsFault g c fault
+pub fault-moved : (f g : Format) (a b c : List ℕ) (fault : DecodeFault) → (f ≡ g) × (a ≡ b) → c ≡ b → IsFault f a fault → IsFault g c fault
 fault-moved f g a b c fault same slice is =
     let P : List ℕ → Type 0 = λ x. IsFault f x fault in
     let Q : Format → Type 0 = λ x. IsFault x c fault in

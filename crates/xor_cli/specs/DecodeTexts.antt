@@ -10,10 +10,10 @@ use Rattle.sense_data.specs.declared.senses.Sense.{Sense}
 use Rattle.xor_mode_page.specs.declared.pages.XorPage.{XorPage}
 use Rattle.xor_params.specs.declared.sources.Descriptor.{Descriptor}
 use Rattle.xor_params.specs.declared.lists.Params.{Params}
-use Rattle.xor_cli.specs.declared.decoding.faults.Fault.{Fault}
-use Rattle.xor_cli.specs.declared.decoding.faults.Fault.TheVariants.{OpCode, Length, Bits, Code, Field}
-use Rattle.xor_cli.specs.declared.decoding.values.Value.{Value}
-use Rattle.xor_cli.specs.declared.decoding.values.Value.TheVariants as values
+use Rattle.xor_cli.specs.declared.decoding.faults.DecodeFault.{DecodeFault}
+use Rattle.xor_cli.specs.declared.decoding.faults.DecodeFault.TheVariants.{OpCode, Length, Bits, Code, Field}
+use Rattle.xor_cli.specs.declared.decoding.values.DecodedValue.{DecodedValue}
+use Rattle.xor_cli.specs.declared.decoding.values.DecodedValue.TheVariants as values
 
 -- a word and a number, behind a space
 unfoldable pub field : List ℕ → ℕ → List ℕ
@@ -133,22 +133,22 @@ params_text p = codes "params" ++ (lengths_text p ++ flat_map source_text p.sour
 
 -- ---- lines
 
-abbrev pub value_text : Value → List ℕ
+abbrev pub value_text : DecodedValue → List ℕ
 value_text (values.Cdb command) = cdb_text command
 value_text (values.Sense sense) = sense_text sense
 value_text (values.Page page) = page_text page
 value_text (values.Params params) = params_text params
 
 -- a code is two hexadecimal digits in lower case
-abbrev pub fault_text : Fault → List ℕ
+abbrev pub fault_text : DecodeFault → List ℕ
 fault_text (OpCode code) = codes "fault opcode " ++ hex (code ∷ [])
 fault_text (Length want got) = codes "fault length" ++ (field (codes "want") want ++ field (codes "got") got)
 fault_text (Bits byte) = codes "fault bits" ++ field (codes "byte") byte
 fault_text (Code got) = codes "fault code " ++ hex (got ∷ [])
 fault_text (Field byte) = codes "fault field" ++ field (codes "byte") byte
 
-abbrev pub value_line : Value → List ℕ
+abbrev pub value_line : DecodedValue → List ℕ
 value_line value = line (value_text value)
 
-abbrev pub fault_line : Fault → List ℕ
+abbrev pub fault_line : DecodeFault → List ℕ
 fault_line fault = line (fault_text fault)

@@ -5,26 +5,26 @@ use Rattle.host_scripts.specs.declared.script.Script.{Script}
 use Rattle.array_journal.specs.declared.entry.Entry.{Entry}
 use Rattle.stripe_check.specs.Reports.{report_of}
 use Rattle.journal_text.specs.Traces.{trace_of}
-use Rattle.xor_cli.specs.declared.decoding.faults.Fault.{Fault}
+use Rattle.xor_cli.specs.declared.decoding.faults.DecodeFault.{DecodeFault}
 use Rattle.xor_cli.specs.declared.decoding.values.Format.{Format}
-use Rattle.xor_cli.specs.declared.decoding.values.Value.{Value}
+use Rattle.xor_cli.specs.declared.decoding.values.DecodedValue.{DecodedValue}
 use Rattle.xor_cli.specs.declared.refusals.Refusal.{Refusal}
 use Rattle.program_status.specs.declared.notes.Excess.{Excess}
 use Rattle.program_status.specs.Notes.{excess_line}
 use Rattle.program_status.specs.Endings.{GainsOne, GainsPrefix}
-use Rattle.xor_cli.specs.declared.words.Command.TheVariants.{Step, Decode}
+use Rattle.xor_cli.specs.declared.words.ToolCommand.TheVariants.{Step, Decode}
 use Rattle.xor_cli.specs.Decoding.{IsValue, IsFault}
 use Rattle.xor_cli.specs.DecodeTexts.{value_line, fault_line}
 use Rattle.xor_cli.specs.RefusalTexts.{refusal_line}
 use Rattle.xor_cli.specs.Inputs.{IsRunnable, IsAccepted, IsRefused, IsExcess}
-use Rattle.xor_cli.specs.Words.{Spells, IsStep}
+use Rattle.xor_cli.specs.Words.{SpellsToolCommand, IsStep}
 use Rattle.xor_cli.specs.Headline.{IsJournalOf}
 
 -- ---- what is written
 
 -- the words ask for a run, the input is this script where its bytes are known, and the journal is a run of it
 pub record HasRun (words : List (List ℕ)) (traced : Bool) (input : Option (List ℕ)) (script : Script) (journal : List Entry) : Type 0 where
-  pub command : Spells words (Step traced)
+  pub command : SpellsToolCommand words (Step traced)
   pub runnable : IsRunnable script
   pub spelt : IfSome input (λ bytes. IsAccepted bytes script)
   pub run : IsJournalOf script journal
@@ -35,8 +35,8 @@ step_text false script journal = report_of script journal
 step_text true script journal = report_of script journal ++ trace_of journal
 
 -- the words ask what these bytes are in a format, the bytes spell this value, and nothing was run
-pub record HasDecoded (words : List (List ℕ)) (format : Format) (bytes : List ℕ) (value : Value) (journal : List Entry) : Type 0 where
-  pub command : Spells words (Decode format bytes)
+pub record HasDecoded (words : List (List ℕ)) (format : Format) (bytes : List ℕ) (value : DecodedValue) (journal : List Entry) : Type 0 where
+  pub command : SpellsToolCommand words (Decode format bytes)
   pub spelt : IsValue format bytes value
   pub run : journal ≡ []
 
@@ -48,7 +48,7 @@ IsReport words input journal text =
 -- the text is the line of a value that was decoded
 abbrev pub IsValueLine : List (List ℕ) → List Entry → List ℕ → Type 0
 IsValueLine words journal text =
-    (format : Format) × ((bytes : List ℕ) × ((value : Value) × (HasDecoded words format bytes value journal × (text ≡ value_line value))))
+    (format : Format) × ((bytes : List ℕ) × ((value : DecodedValue) × (HasDecoded words format bytes value journal × (text ≡ value_line value))))
 
 -- the text is all that a command writes
 abbrev pub IsOutput : List (List ℕ) → Option (List ℕ) → List Entry → List ℕ → Type 0
@@ -70,13 +70,13 @@ IsRefusedRun words input note =
     (refusal : Refusal) × (IsStep words × IfSome input (λ bytes. IsRefused bytes refusal) × (note ≡ refusal_line refusal))
 
 -- the words ask what these bytes are in a format, and they spell no value; their first fault is this
-pub record HasFault (words : List (List ℕ)) (format : Format) (bytes : List ℕ) (fault : Fault) : Type 0 where
-  pub command : Spells words (Decode format bytes)
+pub record HasFault (words : List (List ℕ)) (format : Format) (bytes : List ℕ) (fault : DecodeFault) : Type 0 where
+  pub command : SpellsToolCommand words (Decode format bytes)
   pub first : IsFault format bytes fault
 
 abbrev pub IsFaultLine : List (List ℕ) → List ℕ → Type 0
 IsFaultLine words note =
-    (format : Format) × ((bytes : List ℕ) × ((fault : Fault) × (HasFault words format bytes fault × (note ≡ fault_line fault))))
+    (format : Format) × ((bytes : List ℕ) × ((fault : DecodeFault) × (HasFault words format bytes fault × (note ≡ fault_line fault))))
 
 -- the line of notes of a refusal
 abbrev pub IsRefusal : List (List ℕ) → Option (List ℕ) → List ℕ → Type 0

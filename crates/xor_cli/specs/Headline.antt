@@ -11,7 +11,7 @@ use Rattle.array_journal.specs.Listed.{dirty}
 use Rattle.array_journal.specs.Run.{IsSetting, Run, ConservedThroughout, IsLegal, NoneOpen}
 use Rattle.array_journal.specs.Calm.{IsStamped}
 use Rattle.array_journal.specs.Guarded.{IsGuarded}
-use Rattle.stripe_check.specs.Reports.{setting_of}
+use Rattle.host_requests.specs.Settings.{setting_of}
 use Rattle.stripe_check.specs.Asked.{IsAsked}
 
 -- a setting in which each update is supervised

@@ -4,7 +4,7 @@ use Rattle.std.specs.Prelude.{ℕ, ◌≡◌, ◌≤◌, ◌<◌, List, length, 
 use Rattle.host_scripts.specs.declared.script.Script.{Script}
 use Rattle.host_scripts.specs.declared.script.Cause.{Cause}
 use Rattle.host_scripts.specs.declared.script.Cause.TheVariants as causes
-use Rattle.host_scripts.specs.Scripts.{Spells, IsScript}
+use Rattle.host_scripts.specs.Scripts.{SpellsScript, IsScript}
 use Rattle.host_scripts.specs.Refusals.{IsRefusal}
 use Rattle.host_scripts.specs.Limits.{limit_of}
 use Rattle.outer_io.specs.Outside.{input_limit}
@@ -17,7 +17,7 @@ use Rattle.xor_cli.specs.Unsupported.{first_later}
 
 -- the input is no longer than that, and spells this script
 abbrev pub IsSpelt : List ℕ → Script → Type 0
-IsSpelt input script = (length input ≤ input_limit) × Spells input script
+IsSpelt input script = (length input ≤ input_limit) × SpellsScript input script
 
 -- a script that is within all limits, and no line of which waits for later
 abbrev pub IsRunnable : Script → Type 0

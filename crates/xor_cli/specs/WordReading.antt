@@ -7,8 +7,8 @@ use Rattle.text_fields.specs.Reading.{filled_of}
 use Rattle.program_status.specs.Words.{single_of}
 use Rattle.xor_cli.specs.declared.decoding.values.Format.{Format}
 use Rattle.xor_cli.specs.declared.decoding.values.Format.TheVariants as formats
-use Rattle.xor_cli.specs.declared.words.Command.{Command}
-use Rattle.xor_cli.specs.declared.words.Command.TheVariants.{Step, Decode}
+use Rattle.xor_cli.specs.declared.words.ToolCommand.{ToolCommand}
+use Rattle.xor_cli.specs.declared.words.ToolCommand.TheVariants.{Step, Decode}
 
 -- the first word, and those after it
 abbrev pub first_of : List (List ℕ) → Option (List ℕ × List (List ℕ))
@@ -51,32 +51,32 @@ format_at words = do
   named name.0 name.1
 
 -- what stands behind a format: the bytes
-unfoldable pub last_at : Format → List (List ℕ) → Option Command
+unfoldable pub last_at : Format → List (List ℕ) → Option ToolCommand
 last_at format words = do
   word ← single_of words
   bytes ← hex_of word
   Some (Decode format bytes)
 
 -- what stands behind `decode`
-unfoldable pub decode_at : List (List ℕ) → Option Command
+unfoldable pub decode_at : List (List ℕ) → Option ToolCommand
 decode_at words = do
   format ← format_at words
   last_at format.0 format.1
 
 -- what stands behind `step`
-abbrev pub step_at : List (List ℕ) → Option Command
+abbrev pub step_at : List (List ℕ) → Option ToolCommand
 step_at [] = Some (Step false)
 step_at (word ∷ []) = if bytes_eq word (codes "--trace") then Some (Step true) else None
 step_at (word ∷ other ∷ words) = None
 
 -- what stands behind a verb
-abbrev pub told : List ℕ → List (List ℕ) → Option Command
+abbrev pub told : List ℕ → List (List ℕ) → Option ToolCommand
 told verb words =
     if bytes_eq verb (codes "step") then step_at words
     else if bytes_eq verb (codes "decode") then decode_at words
     else None
 
-unfoldable pub command_at : List (List ℕ) → Option Command
+unfoldable pub command_at : List (List ℕ) → Option ToolCommand
 command_at words = do
   verb ← first_of words
   told verb.0 verb.1

@@ -5,8 +5,8 @@ use Rattle.std.specs.Fmt.{decimal}
 use Rattle.text_fields.specs.Spelling.{hex}
 use Rattle.xor_cli.specs.declared.decoding.values.Format.{Format}
 use Rattle.xor_cli.specs.declared.decoding.values.Format.TheVariants as formats
-use Rattle.xor_cli.specs.declared.words.Command.{Command}
-use Rattle.xor_cli.specs.declared.words.Command.TheVariants.{Step, Decode}
+use Rattle.xor_cli.specs.declared.words.ToolCommand.{ToolCommand}
+use Rattle.xor_cli.specs.declared.words.ToolCommand.TheVariants.{Step, Decode}
 
 -- the words that name a format; a parameter list goes with the INTDATA bit, and with the number of bytes that intermediate
 -- data has
@@ -33,18 +33,18 @@ step_words false = codes "step" ∷ []
 step_words true = codes "step" ∷ codes "--trace" ∷ []
 
 -- the words spell this command
-abbrev pub Spells : List (List ℕ) → Command → Type 0
-Spells words (Step traced) = words ≡ step_words traced
-Spells words (Decode format bytes) = (words ≡ codes "decode" ∷ (format_words format ++ hex bytes ∷ [])) × IsFormat format × IsData bytes
+abbrev pub SpellsToolCommand : List (List ℕ) → ToolCommand → Type 0
+SpellsToolCommand words (Step traced) = words ≡ step_words traced
+SpellsToolCommand words (Decode format bytes) = (words ≡ codes "decode" ∷ (format_words format ++ hex bytes ∷ [])) × IsFormat format × IsData bytes
 
 -- they spell no command
-abbrev pub SpellsNone : List (List ℕ) → Type 0
-SpellsNone words = (command : Command) → Spells words command → ⊥
+abbrev pub SpellsNoToolCommand : List (List ℕ) → Type 0
+SpellsNoToolCommand words = (command : ToolCommand) → SpellsToolCommand words command → ⊥
 
 -- they spell some command
 abbrev pub IsCommand : List (List ℕ) → Type 0
-IsCommand words = (command : Command) × Spells words command
+IsCommand words = (command : ToolCommand) × SpellsToolCommand words command
 
 -- they ask for a run
 abbrev pub IsStep : List (List ℕ) → Type 0
-IsStep words = (traced : Bool) × Spells words (Step traced)
+IsStep words = (traced : Bool) × SpellsToolCommand words (Step traced)

@@ -8,6 +8,6 @@ mod params;
 mod senses;
 mod values;
 
-pub use faults::Fault;
+pub use faults::DecodeFault;
 pub use lines::{fault_line, value_line};
-pub use values::{Format, Undecoded, Value, value_of};
+pub use values::{DecodedValue, Format, Undecoded, value_of};

@@ -1,9 +1,9 @@
 ghost use Rattle.std.specs.Prelude.{ℕ, List, ◌≡◌, ◌≢◌, ◌⊎◌, [], ◌∷◌, ◌≤◌, length, IfSome};
 ghost use Rattle.std.specs.Io.KnownBytes.{Appends, IsAtEnd};
 ghost use Rattle.host_scripts.specs.declared.script.Script.{Script};
-ghost use Rattle.xor_cli.specs.declared.decoding.faults.Fault.{Fault};
+ghost use Rattle.xor_cli.specs.declared.decoding.faults.DecodeFault.{DecodeFault};
 ghost use Rattle.xor_cli.specs.declared.decoding.values.Format.{Format};
-ghost use Rattle.xor_cli.specs.declared.decoding.values.Value.{Value};
+ghost use Rattle.xor_cli.specs.declared.decoding.values.DecodedValue.{DecodedValue};
 ghost use Rattle.xor_cli.specs.declared.refusals.Refusal.{Refusal};
 ghost use Rattle.program_status.specs.declared.notes.Excess.{Excess};
 ghost use Rattle.program_status.specs.Endings.{HasCause, IsHanded, IsNoted};
@@ -11,21 +11,21 @@ ghost use Rattle.program_status.specs.Notes.{excess_line};
 ghost use Rattle.program_status.specs.Statuses.{IsOneOf};
 ghost use Rattle.program_status.specs.Stops.{noted_for};
 ghost use Rattle.program_status.specs.Words.{texts};
-ghost use Rattle.xor_cli.specs.declared.words.Command.TheVariants as commands;
+ghost use Rattle.xor_cli.specs.declared.words.ToolCommand.TheVariants as commands;
 ghost use Rattle.xor_cli.specs.Decoding.{IsValue, IsFault};
 ghost use Rattle.xor_cli.specs.DecodeTexts.{value_line, fault_line};
 ghost use Rattle.xor_cli.specs.RefusalTexts.{refusal_line};
 ghost use Rattle.outer_io.specs.Outside.{HasRisen, input_limit};
-ghost use Rattle.xor_cli.specs.Words.{Spells, SpellsNone, IsStep, IsCommand};
+ghost use Rattle.xor_cli.specs.Words.{SpellsToolCommand, SpellsNoToolCommand, IsStep, IsCommand};
 ghost use Rattle.xor_cli.specs.Inputs.{IsAccepted, IsRefused, IsLater, IsExcess};
 ghost use Rattle.xor_cli.specs.Endings.{IsDone, IsCutShort, IsRefusalNoted, IsExcessNoted};
 ghost use Rattle.xor_cli.specs.Statuses.{verdict_of, later_refusal, IsNoteCutShort};
 
 use crate::execute::{Made, work};
-use crate::findings::Finding;
+use crate::findings::ToolFinding;
 use array_journal::Journal;
 use outer_io::{Sink, Source};
-use program_status::Stop;
+use program_status::ProgramStop;
 use std::alloc::Global;
 
 /// What a command came to: the status that its process ends with, and the journal of what it ran.
@@ -66,7 +66,7 @@ pub fn tool<S: Source, K: Sink, N: Sink>(
         × (result.journal ≡ [])) }
     ensures exceeded { result.status ≡ 7 →
         IsExcessNoted (texts words.now) (S.left source.old) (N.written notes.old) (N.written notes.new) }
-    ensures causes { HasCause (SpellsNone (texts words.now)) (IsCommand (texts words.now)) (IsStep (texts words.now))
+    ensures causes { HasCause (SpellsNoToolCommand (texts words.now)) (IsCommand (texts words.now)) (IsStep (texts words.now))
         (record { source = S.faults source.old; out = K.faults out.old; notes = N.faults notes.old })
         (record { source = S.faults source.new; out = K.faults out.new; notes = N.faults notes.new }) result.status }
     ensures no_other { IsOneOf (0 ∷ 2 ∷ 3 ∷ 4 ∷ 5 ∷ 7 ∷ 64 ∷ []) result.status }
@@ -88,15 +88,15 @@ pub fn tool<S: Source, K: Sink, N: Sink>(
         IfSome (S.left source.old) (λ input. (excess : Excess) → IsExcess input excess →
         ((result.status ≡ 7) × Appends (N.written notes.old) (N.written notes.new) (excess_line excess))
         ⊎ IsOneOf (3 ∷ 4 ∷ 5 ∷ []) result.status) }
-    ensures decodes { (format : Format) (bytes : List ℕ) (value : Value) →
-        Spells (texts words.now) (commands.Decode format bytes) → IsValue format bytes value →
+    ensures decodes { (format : Format) (bytes : List ℕ) (value : DecodedValue) →
+        SpellsToolCommand (texts words.now) (commands.Decode format bytes) → IsValue format bytes value →
         ((result.status ≡ 0) × Appends (K.written out.old) (K.written out.new) (value_line value))
         ⊎ IsOneOf (4 ∷ 5 ∷ []) result.status }
-    ensures faults { (format : Format) (bytes : List ℕ) (fault : Fault) →
-        Spells (texts words.now) (commands.Decode format bytes) → IsFault format bytes fault →
+    ensures faults { (format : Format) (bytes : List ℕ) (fault : DecodeFault) →
+        SpellsToolCommand (texts words.now) (commands.Decode format bytes) → IsFault format bytes fault →
         ((result.status ≡ 2) × Appends (N.written notes.old) (N.written notes.new) (fault_line fault))
         ⊎ IsOneOf (4 ∷ 5 ∷ []) result.status }
-    ensures answers_usage { SpellsNone (texts words.now) → IsOneOf (64 ∷ 4 ∷ []) result.status }
+    ensures answers_usage { SpellsNoToolCommand (texts words.now) → IsOneOf (64 ∷ 4 ∷ []) result.status }
 
     // Where no count of faults rises, only want of memory keeps a script from its run, and a value from its
     // line.
@@ -106,8 +106,8 @@ pub fn tool<S: Source, K: Sink, N: Sink>(
         ¬ HasRisen (K.faults out.old) (K.faults out.new) →
         ¬ HasRisen (N.faults notes.old) (N.faults notes.new) →
         IsOneOf (0 ∷ 5 ∷ []) result.status) }
-    ensures decodes_complete { (format : Format) (bytes : List ℕ) (value : Value) →
-        Spells (texts words.now) (commands.Decode format bytes) → IsValue format bytes value →
+    ensures decodes_complete { (format : Format) (bytes : List ℕ) (value : DecodedValue) →
+        SpellsToolCommand (texts words.now) (commands.Decode format bytes) → IsValue format bytes value →
         ¬ HasRisen (K.faults out.old) (K.faults out.new) →
         ¬ HasRisen (N.faults notes.old) (N.faults notes.new) →
         IsOneOf (0 ∷ 5 ∷ []) result.status }
@@ -144,7 +144,7 @@ fn hand_out<K: Sink>(out: &mut K, made: Made) -> Outcome
 }
 
 /// Writes why there is nothing to write.
-fn hand_note<N: Sink>(alloc: Global, notes: &mut N, stop: &Stop<Finding>) -> Outcome
+fn hand_note<N: Sink>(alloc: Global, notes: &mut N, stop: &ProgramStop<ToolFinding>) -> Outcome
     ensures status { IsNoted verdict_of stop.now (N.written notes.old) (N.written notes.new) (N.faults notes.old) (N.faults notes.new) result.status }
     ensures journal { result.journal ≡ [] }
 {

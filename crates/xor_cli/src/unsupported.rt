@@ -2,13 +2,19 @@
 
 ghost use Rattle.std.specs.Prelude.{◌≡◌, ◌≤◌, ◌<◌, ◌^◌, ◌/◌, length};
 ghost use Rattle.stripe_layout.specs.Layout.{IsArray};
-ghost use Rattle.stripe_check.specs.Cuts.{most_blocks};
 ghost use Rattle.xor_cli.specs.Unsupported.{can_serve_in, is_one_piece, can_do, can_call, later_call, first_later};
 
+use host_requests::most_blocks;
 use host_scripts::{Action, Call, Script};
 use stripe_layout::Mode;
 
-/// The line of the mode.
+/// The version whose lines can be run.
+const VERSION: u8 = 1;
+
+/// The line of the version.
+const VERSION_LINE: u64 = 1;
+
+/// The line of the mode, in a script of that version.
 const MODE_LINE: u64 = 8;
 
 /// The line behind the lines that each script has: of the first turns, or of the first call.
@@ -24,30 +30,15 @@ fn can_serve_in(mode: Mode) -> bool
     }
 }
 
-/// The most blocks of a piece.
-fn most_blocks(script: &Script) -> u32
-    ensures value { result ≡ most_blocks script.now }
-    ensures in_unit { result ≤ script.now.geometry.unit }
-{
-    let fitting = script.geometry.unit.min(script.buffer);
-    let write = script.maxima[0];
-    if write == 0 {
-        fitting
-    } else {
-        fitting.min(write)
-    }
-}
-
 /// Whether so many blocks from this one are one piece within the capacity.
 fn is_one_piece(script: &Script, lba: u32, count: u64) -> bool
     requires { IsArray script.now.geometry }
     ensures { result ≡ is_one_piece script.now lba count }
 {
-    let unit = script.geometry.unit;
     1 <= count
         && count <= u64::from(most_blocks(script))
-        && u64::from(lba % unit) + count <= u64::from(unit)
         && u64::from(lba) + count <= script.geometry.capacity()
+        && count <= u64::from(script.geometry.room_in_unit(lba))
 }
 
 /// Whether an action can be run.
@@ -87,13 +78,16 @@ fn later_call(script: &Script, calls: &[Call]) -> Option<u64>
     None
 }
 
-/// The first line that asks for what can't be run yet, counted from 1: other hosts, calls and modes than
-/// those that can, and turns.
+/// The first line that asks for what can't be run yet, counted from 1: other versions, hosts, calls and
+/// modes than those that can, and turns.
 pub fn first_later(script: &Script) -> Option<u64>
     requires array { IsArray script.now.geometry }
     requires fewer { length script.now.calls < 2 ^ 32 }
     ensures { result ≡ first_later script.now }
 {
+    if script.version != VERSION {
+        return Some(VERSION_LINE);
+    }
     if !can_serve_in(script.mode) {
         return Some(MODE_LINE);
     }

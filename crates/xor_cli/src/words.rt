@@ -1,8 +1,8 @@
 ghost use Rattle.std.specs.Prelude.{◌≡◌, Some, IfOk, OnErr, IsSome, MatchOption};
-ghost use Rattle.xor_cli.specs.declared.words.Command.{Command};
+ghost use Rattle.xor_cli.specs.declared.words.ToolCommand.{ToolCommand};
 ghost use Rattle.program_status.specs.Words.{texts};
 ghost use Rattle.text_fields.specs.Reading.{Reads};
-ghost use Rattle.xor_cli.specs.Words.{Spells, SpellsNone, IsCommand};
+ghost use Rattle.xor_cli.specs.Words.{SpellsToolCommand, SpellsNoToolCommand, IsCommand};
 ghost use Rattle.xor_cli.specs.WordReading.{first_of, flag_of, params_at, format_at, last_at, decode_at, step_at, command_at};
 
 use crate::decoding::Format;
@@ -13,7 +13,7 @@ use std::alloc::Global;
 
 /// What is to be done.
 #[derive(Debug, Drop)]
-pub enum Command {
+pub enum ToolCommand {
     /// Runs a script on one thread, and writes the trace of its journal behind the report where that is
     /// asked for.
     Step { trace: bool },
@@ -76,7 +76,7 @@ fn format(words: &[String]) -> Option<(Format, &[String])>
 
 /// What stands behind a format: the bytes.
 #[tactic(auto, unfolding(crate::specs::WordReading::last_at))]
-fn last(alloc: Global, format: Format, words: &[String]) -> Result<Option<Command>, Memory>
+fn last(alloc: Global, format: Format, words: &[String]) -> Result<Option<ToolCommand>, Memory>
     ensures found { IfOk result (λ found. found ≡ last_at format (texts words.now)) }
     ensures memory { OnErr result (IsSome (last_at format (texts words.now))) }
 {
@@ -84,14 +84,14 @@ fn last(alloc: Global, format: Format, words: &[String]) -> Result<Option<Comman
         return Ok(None);
     };
     match hex_of(alloc, text)? {
-        Some(bytes) => Ok(Some(Command::Decode { format, bytes })),
+        Some(bytes) => Ok(Some(ToolCommand::Decode { format, bytes })),
         None => Ok(None),
     }
 }
 
 /// What stands behind `decode`.
 #[tactic(auto, unfolding(crate::specs::WordReading::decode_at))]
-fn decode(alloc: Global, words: &[String]) -> Result<Option<Command>, Memory>
+fn decode(alloc: Global, words: &[String]) -> Result<Option<ToolCommand>, Memory>
     ensures found { IfOk result (λ found. found ≡ decode_at (texts words.now)) }
     ensures memory { OnErr result (IsSome (decode_at (texts words.now))) }
 {
@@ -102,19 +102,19 @@ fn decode(alloc: Global, words: &[String]) -> Result<Option<Command>, Memory>
 }
 
 /// What stands behind `step`.
-fn step(words: &[String]) -> Option<Command>
+fn step(words: &[String]) -> Option<ToolCommand>
     ensures { result ≡ step_at (texts words.now) }
 {
     match words {
-        [] => Some(Command::Step { trace: false }),
-        [word] if word.as_str() == "--trace" => Some(Command::Step { trace: true }),
+        [] => Some(ToolCommand::Step { trace: false }),
+        [word] if word.as_str() == "--trace" => Some(ToolCommand::Step { trace: true }),
         _ => None,
     }
 }
 
 /// The command that the words are read as.
 #[tactic(auto, unfolding(crate::specs::WordReading::command_at))]
-fn read_words(alloc: Global, words: &[String]) -> Result<Option<Command>, Memory>
+fn read_words(alloc: Global, words: &[String]) -> Result<Option<ToolCommand>, Memory>
     ensures found { IfOk result (λ found. found ≡ command_at (texts words.now)) }
     ensures memory { OnErr result (IsSome (command_at (texts words.now))) }
 {
@@ -126,9 +126,9 @@ fn read_words(alloc: Global, words: &[String]) -> Result<Option<Command>, Memory
 }
 
 /// The command that the words spell. Takes memory only for words that spell one.
-pub fn command_of(alloc: Global, words: &[String]) -> Result<Option<Command>, Memory>
-    ensures found { IfOk result (λ found. MatchOption found (SpellsNone (texts words.now)) (λ command. Spells (texts words.now) command)) }
-    ensures only { (command : Command) → Spells (texts words.now) command → IfOk result (λ found. found ≡ Some command) }
+pub fn command_of(alloc: Global, words: &[String]) -> Result<Option<ToolCommand>, Memory>
+    ensures found { IfOk result (λ found. MatchOption found (SpellsNoToolCommand (texts words.now)) (λ command. SpellsToolCommand (texts words.now) command)) }
+    ensures only { (command : ToolCommand) → SpellsToolCommand (texts words.now) command → IfOk result (λ found. found ≡ Some command) }
     ensures memory { OnErr result (IsCommand (texts words.now)) }
 {
     read_words(alloc, words)

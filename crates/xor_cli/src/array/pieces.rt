@@ -1,10 +1,12 @@
-ghost use Rattle.std.specs.Prelude.{◌≡◌, [], ◌∷◌, OnOk, IfOk, false};
+ghost use Rattle.std.specs.Prelude.{◌≡◌, [], ◌∷◌, OnOk, IfOk};
+ghost use Rattle.sbc_cdbs.specs.Cdbs.{Fits, SpellsCdb, cdb_bytes};
+ghost use Rattle.array_journal.specs.Acts.{cdb_of};
 ghost use Rattle.array_journal.specs.declared.task.Kind.TheVariants as kinds;
 
-use crate::array::controller::{Controller, Served};
-use array_journal::{At, Names, Task};
+use crate::array::controller::Controller;
+use array_journal::{Act, At, Names, Setting, Task, command_of};
 use blocks_core::Memory;
-use sbc_cdbs::{Command, encode};
+use sbc_cdbs::{Cdb, encode};
 use std::alloc::Global;
 
 impl Controller {
@@ -21,14 +23,9 @@ impl Controller {
         ensures served { OnOk result (IsServed (array_of self.old) (array_of self.new) task) }
     {
         let target = task.target;
+        let read = act_cdb(&self.setting, &task, Act::Fetches);
         let served = self.open(task)?;
-        let read = Command::Read {
-            dpo: false,
-            fua: false,
-            lba: served.row,
-            length: served.count,
-        };
-        let fetched = self.fetch(alloc, served, target, encode(&read))?;
+        let fetched = self.fetch(alloc, served, target, read)?;
         let mut names = Names::new(alloc);
         names.push(fetched)?;
         self.close(alloc, served, names)?;
@@ -47,52 +44,27 @@ impl Controller {
     {
         let (target, parity) = (task.target, task.parity);
         let bytes = task.bytes.copy(alloc)?;
+        let diff = act_cdb(&self.setting, &task, Act::Diffs);
+        let take = act_cdb(&self.setting, &task, Act::Takes);
+        let fold = act_cdb(&self.setting, &task, Act::Folds);
         let served = self.open(task)?;
-        let differed = self.diff(alloc, served, target, encode(&xdwrite(served)), bytes)?;
-        let (taken, delta) = self.take(alloc, served, target, encode(&xdread(served)))?;
-        let folded = self.fold(
-            alloc,
-            served,
-            parity,
-            encode(&xpwrite(served)),
-            delta,
-            taken,
-        )?;
+        let differed = self.diff(alloc, served, target, diff, bytes)?;
+        let (taken, delta) = self.take(alloc, served, target, take)?;
+        let folded = self.fold(alloc, served, parity, fold, delta, taken)?;
         let names = three_names(alloc, differed, taken, folded)?;
         self.close(alloc, served, names)?;
         Ok(())
     }
 }
 
-fn xdwrite(served: Served) -> Command
-    ensures { result ≡ Command.XdWrite false false false served.row served.count }
+/// The CDB of an act that rests on no fetches. The rows of a sound task fit its fields.
+fn act_cdb(setting: &Setting, task: &Task, act: Act) -> Cdb
+    requires { Fits (cdb_of setting.now task.now 0 act) }
+    ensures { SpellsCdb (cdb_bytes result) (cdb_of setting.now task.now 0 act) }
 {
-    Command::XdWrite {
-        dpo: false,
-        fua: false,
-        disable: false,
-        lba: served.row,
-        length: served.count,
-    }
-}
-
-fn xdread(served: Served) -> Command
-    ensures { result ≡ Command.XdRead served.row served.count }
-{
-    Command::XdRead {
-        lba: served.row,
-        length: served.count,
-    }
-}
-
-fn xpwrite(served: Served) -> Command
-    ensures { result ≡ Command.XpWrite false false served.row served.count }
-{
-    Command::XpWrite {
-        dpo: false,
-        fua: false,
-        lba: served.row,
-        length: served.count,
+    match command_of(setting, task, 0, act) {
+        Some(command) => encode(&command),
+        None => unreachable!(),
     }
 }
 

@@ -10,6 +10,7 @@ use crate::array::controller::Controller;
 use crate::array::target::Target;
 use array_journal::{Entries, Journal, Kind, Setting, Task, merge};
 use blocks_core::{Bytes, Memory};
+use host_requests::setting_of;
 use host_scripts::{Action, Call, Script};
 use std::alloc::Global;
 use stripe_layout::Geometry;
@@ -28,11 +29,11 @@ impl Controller {
         ensures setting { IfOk result (λ c. c.setting ≡ setting) }
         ensures empty { IfOk result (λ c. (array_of c).journal ≡ []) }
     {
-        let geometry = setting.geometry;
+        let targets = blank_targets(alloc, &setting.geometry)?;
         Ok(Controller {
             setting,
             book: Book::new(alloc),
-            targets: blank_targets(alloc, geometry)?,
+            targets,
             stamp: 0,
         })
     }
@@ -45,11 +46,18 @@ impl Controller {
         ensures kept { OnOk result (IsKept self.new) }
         ensures served { OnOk result (HasServed (array_of self.old) (array_of self.new) number call.now.action) }
     {
-        let geometry = self.setting.geometry;
+        let geometry = &self.setting.geometry;
         match &call.action {
             Action::Read { lba, count } => {
                 let count = u32::from(*count);
-                let task = task_at(geometry, number, Kind::Read, *lba, count, Bytes::new(alloc));
+                let task = task_at(
+                    &geometry,
+                    number,
+                    Kind::Read,
+                    *lba,
+                    count,
+                    Bytes::new(alloc),
+                );
                 self.read(alloc, task)
             }
             Action::Write { lba, bytes } => {
@@ -97,14 +105,14 @@ impl Controller {
 }
 
 /// Targets of zeros, as many as the array has.
-fn blank_targets(alloc: Global, geometry: Geometry) -> Result<Vec<Target>, Memory>
-    requires { IsArray geometry }
-    ensures { IfOk result (λ v. v.items ≡ replicate geometry.targets (record {
-      disk = record { medium = zeros (rows_of geometry * geometry.block); held = [] };
+fn blank_targets(alloc: Global, geometry: &Geometry) -> Result<Vec<Target>, Memory>
+    requires { IsArray geometry.now }
+    ensures { IfOk result (λ v. v.items ≡ replicate geometry.now.targets (record {
+      disk = record { medium = zeros (rows_of geometry.now * geometry.now.block); held = [] };
       entries = [];
     })) }
 {
-    let size = geometry.stripes as usize * geometry.unit as usize * geometry.block as usize;
+    let size = geometry.rows() as usize * geometry.block as usize;
     let mut targets = Vec::new(alloc);
     for _ in 0..geometry.targets {
         targets.push(Target::new(alloc, size)?)?;
@@ -113,10 +121,10 @@ fn blank_targets(alloc: Global, geometry: Geometry) -> Result<Vec<Target>, Memor
 }
 
 /// The task of blocks of one unit.
-fn task_at(geometry: Geometry, number: u32, kind: Kind, lba: u32, count: u32, bytes: Bytes) -> Task
-    requires array { IsArray geometry }
-    requires in_range { lba < capacity_of geometry }
-    ensures { result ≡ task_of_blocks geometry number kind lba count bytes }
+fn task_at(geometry: &Geometry, number: u32, kind: Kind, lba: u32, count: u32, bytes: Bytes) -> Task
+    requires array { IsArray geometry.now }
+    requires in_range { lba < capacity_of geometry.now }
+    ensures { result ≡ task_of_blocks geometry.now number kind lba count bytes }
 {
     let place = geometry.place(lba);
     Task {
@@ -138,12 +146,7 @@ pub fn run(alloc: Global, script: &Script) -> Result<Journal, Memory>
     requires fewer { length script.now.calls < 2 ^ 32 }
     ensures { IfOk result (λ journal. IsJournalOf script.now journal) }
 {
-    let setting = Setting {
-        geometry: script.geometry,
-        buffer: script.buffer,
-        mode: script.mode,
-    };
-    let mut controller = Controller::start(alloc, setting)?;
+    let mut controller = Controller::start(alloc, setting_of(script))?;
     for (place, call) in script.calls.as_slice().iter().enumerate() {
         controller.serve(alloc, place as u32 + 1, call)?;
     }

@@ -2,7 +2,7 @@
 
 /// The first fault of bytes that spell no value.
 #[derive(Clone, Copy, Debug, PartialEq, Eq)]
-pub enum Fault {
+pub enum DecodeFault {
     /// No command has this operation code.
     OpCode { code: u8 },
     /// There are `got` bytes, not `want`.

@@ -9,26 +9,26 @@ use crate::decoding::cdbs::push_cdb;
 use crate::decoding::pages::push_page;
 use crate::decoding::params::push_params;
 use crate::decoding::senses::push_sense;
-use crate::decoding::{Fault, Value};
+use crate::decoding::{DecodeFault, DecodedValue};
 use crate::text::push_field;
 use blocks_core::{Bytes, Memory};
 use std::alloc::Global;
 use text_fields::push_hex;
 
-fn push_value(text: &mut Bytes, value: &Value) -> Result<(), Memory>
+fn push_value(text: &mut Bytes, value: &DecodedValue) -> Result<(), Memory>
     ensures ok { OnOk result (text.new ≡ text.old ++ value_text value.now) }
     ensures front { StartsWith text.new text.old }
 {
     match value {
-        Value::Cdb(command) => push_cdb(text, command),
-        Value::Sense(sense) => push_sense(text, sense),
-        Value::Page(page) => push_page(text, page),
-        Value::Params(params) => push_params(text, params),
+        DecodedValue::Cdb(command) => push_cdb(text, command),
+        DecodedValue::Sense(sense) => push_sense(text, sense),
+        DecodedValue::Page(page) => push_page(text, page),
+        DecodedValue::Params(params) => push_params(text, params),
     }
 }
 
 /// The line of a value.
-pub fn value_line(alloc: Global, value: &Value) -> Result<Bytes, Memory>
+pub fn value_line(alloc: Global, value: &DecodedValue) -> Result<Bytes, Memory>
     ensures { IfOk result (λ text. text ≡ value_line value.now) }
 {
     let mut text = Bytes::new(alloc);
@@ -65,21 +65,21 @@ fn push_length(text: &mut Bytes, want: u64, got: u64) -> Result<(), Memory>
     push_field(text, b"got", got)
 }
 
-fn push_fault(text: &mut Bytes, fault: Fault) -> Result<(), Memory>
+fn push_fault(text: &mut Bytes, fault: DecodeFault) -> Result<(), Memory>
     ensures ok { OnOk result (text.new ≡ text.old ++ fault_text fault) }
     ensures front { StartsWith text.new text.old }
 {
     match fault {
-        Fault::OpCode { code } => push_coded(text, b"fault opcode ", code),
-        Fault::Length { want, got } => push_length(text, want, got),
-        Fault::Bits { byte } => push_placed(text, b"fault bits", u32::from(byte)),
-        Fault::Code { got } => push_coded(text, b"fault code ", got),
-        Fault::Field { byte } => push_placed(text, b"fault field", byte),
+        DecodeFault::OpCode { code } => push_coded(text, b"fault opcode ", code),
+        DecodeFault::Length { want, got } => push_length(text, want, got),
+        DecodeFault::Bits { byte } => push_placed(text, b"fault bits", u32::from(byte)),
+        DecodeFault::Code { got } => push_coded(text, b"fault code ", got),
+        DecodeFault::Field { byte } => push_placed(text, b"fault field", byte),
     }
 }
 
 /// The line of a fault.
-pub fn fault_line(alloc: Global, fault: Fault) -> Result<Bytes, Memory>
+pub fn fault_line(alloc: Global, fault: DecodeFault) -> Result<Bytes, Memory>
     ensures { IfOk result (λ text. text ≡ fault_line fault) }
 {
     let mut text = Bytes::new(alloc);

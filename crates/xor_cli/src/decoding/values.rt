@@ -4,7 +4,7 @@ ghost use Rattle.std.specs.Prelude.{◌≡◌};
 ghost use Rattle.xor_cli.specs.Decoding.{IsAnswer};
 ghost use Rattle.xor_cli.specs.DecodeAnswers.{cdb_answer, sense_answer, page_answer, params_answer};
 
-use crate::decoding::Fault;
+use crate::decoding::DecodeFault;
 use blocks_core::Memory;
 use sbc_cdbs::CdbFault;
 use sense_data::{Sense, SenseFault};
@@ -28,7 +28,7 @@ pub enum Format {
 
 /// What bytes were read as.
 #[derive(Debug, Drop)]
-pub enum Value {
+pub enum DecodedValue {
     Cdb(sbc_cdbs::Command),
     Sense(Sense),
     Page(XorPage),
@@ -38,69 +38,69 @@ pub enum Value {
 /// Why there is no value.
 #[derive(Clone, Copy, Debug, PartialEq, Eq)]
 pub enum Undecoded {
-    Faulty(Fault),
+    Faulty(DecodeFault),
     Memory,
 }
 
-fn cdb_answer(read: Result<sbc_cdbs::Command, CdbFault>) -> Result<Value, Undecoded>
+fn cdb_answer(read: Result<sbc_cdbs::Command, CdbFault>) -> Result<DecodedValue, Undecoded>
     ensures { result ≡ cdb_answer read }
 {
     match read {
-        Ok(command) => Ok(Value::Cdb(command)),
-        Err(CdbFault::OpCode { code }) => Err(Undecoded::Faulty(Fault::OpCode { code })),
-        Err(CdbFault::Length { want, got }) => Err(Undecoded::Faulty(Fault::Length {
+        Ok(command) => Ok(DecodedValue::Cdb(command)),
+        Err(CdbFault::OpCode { code }) => Err(Undecoded::Faulty(DecodeFault::OpCode { code })),
+        Err(CdbFault::Length { want, got }) => Err(Undecoded::Faulty(DecodeFault::Length {
             want: u64::from(want),
             got: got as u64,
         })),
-        Err(CdbFault::Bits { byte }) => Err(Undecoded::Faulty(Fault::Bits { byte })),
+        Err(CdbFault::Bits { byte }) => Err(Undecoded::Faulty(DecodeFault::Bits { byte })),
     }
 }
 
-fn sense_answer(read: Result<Sense, SenseFault>) -> Result<Value, Undecoded>
+fn sense_answer(read: Result<Sense, SenseFault>) -> Result<DecodedValue, Undecoded>
     ensures { result ≡ sense_answer read }
 {
     match read {
-        Ok(sense) => Ok(Value::Sense(sense)),
-        Err(SenseFault::Length { got }) => Err(Undecoded::Faulty(Fault::Length {
+        Ok(sense) => Ok(DecodedValue::Sense(sense)),
+        Err(SenseFault::Length { got }) => Err(Undecoded::Faulty(DecodeFault::Length {
             want: 18,
             got: got as u64,
         })),
-        Err(SenseFault::Code { got }) => Err(Undecoded::Faulty(Fault::Code { got })),
-        Err(SenseFault::Bits { byte }) => Err(Undecoded::Faulty(Fault::Bits { byte })),
+        Err(SenseFault::Code { got }) => Err(Undecoded::Faulty(DecodeFault::Code { got })),
+        Err(SenseFault::Bits { byte }) => Err(Undecoded::Faulty(DecodeFault::Bits { byte })),
     }
 }
 
-fn page_answer(read: Result<XorPage, PageFault>) -> Result<Value, Undecoded>
+fn page_answer(read: Result<XorPage, PageFault>) -> Result<DecodedValue, Undecoded>
     ensures { result ≡ page_answer read }
 {
     match read {
-        Ok(page) => Ok(Value::Page(page)),
-        Err(PageFault::Length { want, got }) => Err(Undecoded::Faulty(Fault::Length {
+        Ok(page) => Ok(DecodedValue::Page(page)),
+        Err(PageFault::Length { want, got }) => Err(Undecoded::Faulty(DecodeFault::Length {
             want: want as u64,
             got: got as u64,
         })),
-        Err(PageFault::Field { byte }) => Err(Undecoded::Faulty(Fault::Field {
+        Err(PageFault::Field { byte }) => Err(Undecoded::Faulty(DecodeFault::Field {
             byte: u32::from(byte),
         })),
     }
 }
 
-fn params_answer(read: Result<Params, ParamFault>) -> Result<Value, Undecoded>
+fn params_answer(read: Result<Params, ParamFault>) -> Result<DecodedValue, Undecoded>
     ensures { result ≡ params_answer read }
 {
     match read {
-        Ok(params) => Ok(Value::Params(params)),
+        Ok(params) => Ok(DecodedValue::Params(params)),
         Err(ParamFault::Length { want, got }) => {
-            Err(Undecoded::Faulty(Fault::Length { want, got }))
+            Err(Undecoded::Faulty(DecodeFault::Length { want, got }))
         }
-        Err(ParamFault::Field { byte }) => Err(Undecoded::Faulty(Fault::Field { byte })),
+        Err(ParamFault::Field { byte }) => Err(Undecoded::Faulty(DecodeFault::Field { byte })),
         Err(ParamFault::Memory) => Err(Undecoded::Memory),
     }
 }
 
 /// The value that the bytes spell in this format, or their first fault. Only a parameter list takes
 /// memory, and only where the bytes spell one.
-pub fn value_of(alloc: Global, format: Format, bytes: &[u8]) -> Result<Value, Undecoded>
+pub fn value_of(alloc: Global, format: Format, bytes: &[u8]) -> Result<DecodedValue, Undecoded>
     ensures { IsAnswer format bytes.now result }
 {
     match format {

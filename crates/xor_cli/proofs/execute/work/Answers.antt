@@ -1,4 +1,4 @@
-use Rattle.xor_cli.specs.declared.words.Command.TheVariants as commands
+use Rattle.xor_cli.specs.declared.words.ToolCommand.TheVariants as commands
 use Rattle.xor_cli.proofs.WordLaws.{same-decode, unread-decode}
 use Rattle.xor_cli.proofs.Work.{value-moved, fault-moved}
 use Rattle.xor_cli.proofs.execute.work.Goals as goal

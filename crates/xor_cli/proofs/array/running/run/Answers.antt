@@ -2,7 +2,7 @@ use Rattle.std.proofs.Common.{◌≡◌, ◌<◌, ◌≤◌, ◌∙◌, ◌+◌,
 use Rattle.host_scripts.specs.declared.script.Call.{Call}
 use Rattle.array_journal.specs.declared.entry.Entry.{Entry}
 use Rattle.xor_cli.specs.Arrays.{array_of}
-use Rattle.xor_cli.specs.Headline.{IsJournalOf}
+use Rattle.xor_cli.specs.Headline.{IsStart, IsJournalOf}
 use Rattle.xor_cli.proofs.Laters.{runs-today, starts-today}
 use Rattle.xor_cli.proofs.FirstCalls.{call-served}
 use Rattle.xor_cli.proofs.Going.{Going, going-none}
@@ -10,7 +10,7 @@ use Rattle.xor_cli.proofs.AskedRuns.{served-goes, served-rest, journal-of}
 use Rattle.xor_cli.proofs.array.running.run.Goals as goal
 
 pub start-requires : goal.start-requires
-start-requires c = starts-today c.args.script.now c.requires.runnable
+start-requires c = subst IsStart (sym c.setting_of.ensures.value) (starts-today c.args.script.now c.requires.runnable)
 
 pub serve-requires-clause-action : goal.serve-requires-clause-action
 serve-requires-clause-action c =
@@ -24,7 +24,7 @@ loop-place-init c =
     record {
       kept = c.in_ok-controller.ensures.kept;
       rest = c.in_ok-controller.ensures.rest;
-      setting = c.in_ok-controller.ensures.setting;
+      setting = c.in_ok-controller.ensures.setting ∙ c.setting_of.ensures.value;
       going = subst Asks (sym c.in_ok-controller.ensures.empty) (going-none c.args.script.now);
     }
 

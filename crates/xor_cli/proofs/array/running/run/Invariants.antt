@@ -2,7 +2,7 @@
 use Rattle.std.proofs.Common.{◌≡◌, ◌+◌, [], reverse}
 use Rattle.xor_cli.specs.Arrays.{array_of, IsKept}
 use Rattle.xor_cli.specs.Rest.{IsAtRest}
-use Rattle.stripe_check.specs.Reports.{setting_of}
+use Rattle.host_requests.specs.Settings.{setting_of}
 use Rattle.xor_cli.proofs.Going.{Going}
 use Rattle.xor_cli.proofs.array.running.run.Given as goal
 

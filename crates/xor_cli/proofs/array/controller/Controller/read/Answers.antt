@@ -1,6 +1,4 @@
-use Rattle.std.proofs.Common.{List, ◌*◌, false, ◌++◌, ◌∷◌, [], sym, ap, ◌∙◌, subst}
-use Rattle.sbc_cdbs.specs.declared.commands.Command.TheVariants as sbc
-use Rattle.sbc_cdbs.specs.Cdbs.{spelling}
+use Rattle.std.proofs.Common.{List, ◌*◌, ◌++◌, ◌∷◌, [], sym, ap, ◌∙◌, subst}
 use Rattle.array_journal.specs.declared.at.At.{At}
 use Rattle.xor_cli.specs.Arrays.{Array, array_of}
 use Rattle.xor_cli.specs.declared.array.controller.Served.{Served}
@@ -20,10 +18,12 @@ fetch-requires-clause-on_disk c =
 
 pub returns-clause-served : goal.returns-clause-served
 returns-clause-served c =
-    let steps = read-steps (array_of c.args.self.now) (array_of c.open.new.self) (array_of c.fetch.new.self) (array_of c.close.new.self) c.args.task c.in_ok-served.served c.encode.result
+    let steps = read-steps (array_of c.args.self.now) (array_of c.open.new.self) (array_of c.fetch.new.self) (array_of c.close.new.self) c.args.task c.in_ok-served.served c.act_cdb-read.result
     c.in_ok-fetched.fetched c.push.new.self c.in_ok-served.ensures.served c.in_ok-served.ensures.entry c.in_ok-fetched.ensures.entry c.in_ok-fetched.ensures.name
     (c.in_ok-push.ensures.ok ∙ ap (λ (l : List At). l ++ c.in_ok-fetched.fetched ∷ []) c.new-names.ensures) c.in_ok-close.ensures.array in
     let P : Array → Type 0 = λ m. IsServed (array_of c.args.self.now) m c.args.task in
-    let spelt = c.encode.ensures.bytes ∙ ap (λ (v : Served). spelling (sbc.Read false false v.row v.count)) c.in_ok-served.ensures.served in
-    subst P (sym steps) (read-served (array_of c.args.self.now) c.args.task c.encode.result c.requires.rest c.requires.task c.requires.kind
-    (spelt, task-fits (array_of c.args.self.now).setting c.args.task c.requires.rest.setting c.requires.task.sound))
+    subst P (sym steps)
+    (read-served (array_of c.args.self.now) c.args.task c.act_cdb-read.result c.requires.rest c.requires.task c.requires.kind c.act_cdb-read.ensures)
+
+pub act_cdb-read-requires : goal.act_cdb-read-requires
+act_cdb-read-requires c = task-fits (array_of c.args.self.now).setting c.args.task c.requires.rest.setting c.requires.task.sound

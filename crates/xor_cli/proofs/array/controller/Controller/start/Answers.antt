@@ -12,20 +12,20 @@ use Rattle.xor_cli.proofs.array.controller.Controller.start.Goals as goal
 
 pub returns-clause-kept : goal.returns-clause-kept
 returns-clause-kept c =
-    let Kept : Book → Type 0 = λ b. AreKept 0 (b.entries ∷ map entries_in c.in_ok-blank_targets.field-0.items) in
-    subst Kept (sym c.new.ensures) (blank-kept c.in_ok-blank_targets.field-0.items c.args.setting.geometry.targets _ c.in_ok-blank_targets.ensures refl)
+    let Kept : Book → Type 0 = λ b. AreKept 0 (b.entries ∷ map entries_in c.in_ok-targets.targets.items) in
+    subst Kept (sym c.new.ensures) (blank-kept c.in_ok-targets.targets.items c.args.setting.geometry.targets _ c.in_ok-targets.ensures refl)
 
 pub returns-clause-empty : goal.returns-clause-empty
 returns-clause-empty c =
-    let Empty : Book → Type 0 = λ b. journal_of (b.entries ∷ map entries_in c.in_ok-blank_targets.field-0.items) ≡ [] in
-    subst Empty (sym c.new.ensures) (blank-journal c.in_ok-blank_targets.field-0.items c.args.setting.geometry.targets _ c.in_ok-blank_targets.ensures refl)
+    let Empty : Book → Type 0 = λ b. journal_of (b.entries ∷ map entries_in c.in_ok-targets.targets.items) ≡ [] in
+    subst Empty (sym c.new.ensures) (blank-journal c.in_ok-targets.targets.items c.args.setting.geometry.targets _ c.in_ok-targets.ensures refl)
 
 pub returns-clause-rest : goal.returns-clause-rest
 returns-clause-rest c =
-    let lanes = c.in_ok-blank_targets.field-0.items in
+    let lanes = c.in_ok-targets.targets.items in
     let lane : Lane = record { disk = record { medium = zeros (rows_of c.args.setting.geometry * c.args.setting.geometry.block); held = [] }; entries = [] } in
     let AtRest : Book → Type 0 = λ b. IsRest c.args.setting b.commands (journal_of (b.entries ∷ map entries_in lanes)) (map disk_in lanes) in
     subst AtRest (sym c.new.ensures)
     (start-rest c.args.setting (map disk_in lanes) (journal_of ([] ∷ map entries_in lanes)) c.requires
-    (blank-disks lanes c.args.setting.geometry.targets lane c.in_ok-blank_targets.ensures)
-    (blank-journal lanes c.args.setting.geometry.targets lane c.in_ok-blank_targets.ensures refl))
+    (blank-disks lanes c.args.setting.geometry.targets lane c.in_ok-targets.ensures)
+    (blank-journal lanes c.args.setting.geometry.targets lane c.in_ok-targets.ensures refl))
