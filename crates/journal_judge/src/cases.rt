@@ -3,10 +3,11 @@
 ghost use Rattle.std.specs.Prelude.{◌≡◌, ◌<◌, ◌≤◌, ◌^◌, length};
 ghost use Rattle.array_journal.specs.Merge.{Rises};
 ghost use Rattle.host_scripts.specs.Scripts.{IsScript};
-ghost use Rattle.stripe_check.specs.Reports.{setting_of};
+ghost use Rattle.host_requests.specs.Settings.{setting_of};
 
-use array_journal::{Journal, Setting};
+use array_journal::Journal;
 use blocks_core::{Bytes, Memory};
+use host_requests::setting_of;
 use host_scripts::{Script, ScriptFault, parse};
 use std::alloc::Global;
 use text_fields::push_number;
@@ -18,7 +19,7 @@ const LIMIT: usize = 50_331_648;
 
 /// What is said of a journal.
 #[derive(Clone, Copy)]
-enum Verdict {
+enum JournalVerdict {
     /// It is a run.
     Run,
     /// This entry, from 1, may not follow the ones before it.
@@ -71,12 +72,12 @@ impl Case {
     }
 }
 
-fn push_verdict(text: &mut Bytes, verdict: Verdict) -> Result<(), Memory> {
+fn push_verdict(text: &mut Bytes, verdict: JournalVerdict) -> Result<(), Memory> {
     match verdict {
-        Verdict::Run => text.push_slice(b" run\n"),
-        Verdict::Entry(number) => push_numbered(text, b" entry ", number),
-        Verdict::NoScript => text.push_slice(b" no script\n"),
-        Verdict::Line(number) => push_numbered(text, b" no trace, line ", number),
+        JournalVerdict::Run => text.push_slice(b" run\n"),
+        JournalVerdict::Entry(number) => push_numbered(text, b" entry ", number),
+        JournalVerdict::NoScript => text.push_slice(b" no script\n"),
+        JournalVerdict::Line(number) => push_numbered(text, b" no trace, line ", number),
     }
 }
 
@@ -88,30 +89,30 @@ fn push_numbered(text: &mut Bytes, words: &[u8], number: u32) -> Result<(), Memo
 
 /// What is said of the journal that a trace spells, in the array that a script sets up. One that is too
 /// long is answered like want of memory.
-fn judged(alloc: Global, script: &[u8], trace: &[u8]) -> Result<Verdict, Memory> {
+fn judged(alloc: Global, script: &[u8], trace: &[u8]) -> Result<JournalVerdict, Memory> {
     if script.len() > LIMIT || trace.len() > LIMIT {
         return Err(Memory);
     }
     match parse(alloc, script) {
         Ok(script) => judged_in(alloc, &script, trace),
-        Err(ScriptFault::Refused { .. }) => Ok(Verdict::NoScript),
+        Err(ScriptFault::Refused { .. }) => Ok(JournalVerdict::NoScript),
         Err(ScriptFault::Memory) => Err(Memory),
     }
 }
 
-fn judged_in(alloc: Global, script: &Script, trace: &[u8]) -> Result<Verdict, Memory>
+fn judged_in(alloc: Global, script: &Script, trace: &[u8]) -> Result<JournalVerdict, Memory>
     requires script { IsScript script.now }
     requires short { length trace.now < 2 ^ 32 }
 {
     match read_trace(alloc, trace) {
         Ok(journal) => judged_run(alloc, script, &journal),
-        Err(TraceFault::Line { line }) => Ok(Verdict::Line(line)),
+        Err(TraceFault::Line { line }) => Ok(JournalVerdict::Line(line)),
         Err(TraceFault::Memory) => Err(Memory),
     }
 }
 
 /// What is said of a journal, of fewer entries than its trace may have bytes.
-fn judged_run(alloc: Global, script: &Script, journal: &Journal) -> Result<Verdict, Memory>
+fn judged_run(alloc: Global, script: &Script, journal: &Journal) -> Result<JournalVerdict, Memory>
     requires script { IsScript script.now }
     requires rises { Rises journal.now }
 {
@@ -119,18 +120,8 @@ fn judged_run(alloc: Global, script: &Script, journal: &Journal) -> Result<Verdi
         return Err(Memory);
     }
     match run_fault(alloc, &setting_of(script), journal)? {
-        Some(number) => Ok(Verdict::Entry(number)),
-        None => Ok(Verdict::Run),
-    }
-}
-
-fn setting_of(script: &Script) -> Setting
-    ensures { result ≡ setting_of script.now }
-{
-    Setting {
-        geometry: script.geometry,
-        buffer: script.buffer,
-        mode: script.mode,
+        Some(number) => Ok(JournalVerdict::Entry(number)),
+        None => Ok(JournalVerdict::Run),
     }
 }
 

@@ -1,16 +1,21 @@
-//! The calls, one after the other.
+//! The calls, one subject after the other.
 
 ghost use Rattle.std.specs.Prelude.{◌≡◌, ◌<◌, ◌≤◌, ◌^◌, length};
 ghost use Rattle.host_scripts.specs.Scripts.{IsScript};
-ghost use Rattle.stripe_layout.specs.Layout.{IsArray};
 
-use array_journal::{Entries, Journal, merge};
+use crate::blocks::push_blocks_core;
+use crate::buffers::push_buffers;
+use crate::journals::push_journal;
+use crate::outside::push_outer_io;
+use crate::pages::push_pages;
+use crate::requests::push_requests;
+use crate::scripts::push_scripts;
+use crate::state::push_state;
+use crate::tables::push_tables;
+use array_journal::Journal;
 use blocks_core::{Bytes, Memory};
-use host_scripts::{Script, parse, print};
+use host_scripts::{Script, parse};
 use std::alloc::Global;
-use stripe_check::{sum, summary, trace};
-use stripe_layout::Geometry;
-use text_fields::{push_hex, push_number};
 use trace_check::read_trace;
 
 /// The most bytes of a script, and of a trace. Lines and entries are then counted in 32 bits, as `parse`
@@ -47,57 +52,20 @@ pub fn answer_to(alloc: Global, input: &[u8]) -> Result<Answer, Memory> {
     called(alloc, &script, &journal)
 }
 
+/// The calls on script and journal, and then those that want no input.
 fn called(alloc: Global, script: &Script, journal: &Journal) -> Result<Answer, Memory>
     requires { IsScript script.now }
 {
-    let mut text = print(alloc, script)?;
-    let merged = merged_copy(alloc, journal)?;
-    text.push_slice(b"trace\n")?;
-    text.push_slice(trace(alloc, &merged)?.as_slice())?;
-    push_sums(alloc, &mut text, &script.geometry, &merged)?;
-    text.push_slice(summary(alloc, script, &merged)?.as_slice())?;
+    let mut text = Bytes::new(alloc);
+    push_journal(alloc, &mut text, script, journal)?;
+    text.push_slice(b"libraries\n")?;
+    push_blocks_core(alloc, &mut text)?;
+    push_outer_io(alloc, &mut text)?;
+    push_state(alloc, &mut text)?;
+    push_buffers(alloc, &mut text)?;
+    push_requests(alloc, &mut text)?;
+    push_scripts(alloc, &mut text)?;
+    push_tables(alloc, &mut text)?;
+    push_pages(&mut text)?;
     Ok(Answer::Text(text))
-}
-
-/// The journal again, from copies of its entries in a list for each lock.
-fn merged_copy(alloc: Global, journal: &Journal) -> Result<Journal, Memory> {
-    let mut lists = Vec::new(alloc);
-    // A trace may name any lock: what stands at one without a list would be lost.
-    for lock in 0..=u8::MAX {
-        lists.push(lane(alloc, journal, lock)?)?;
-    }
-    merge(alloc, lists)
-}
-
-/// Copies of the entries of one lock.
-fn lane(alloc: Global, journal: &Journal, lock: u8) -> Result<Entries, Memory> {
-    let mut entries = Entries::new(alloc);
-    for entry in journal.as_slice() {
-        if entry.lock == lock {
-            entries.push(entry.copy(alloc)?)?;
-        }
-    }
-    Ok(entries)
-}
-
-/// A line for each entry: its stamp, and the exclusive-or of each stripe over all targets after it.
-fn push_sums(
-    alloc: Global,
-    text: &mut Bytes,
-    geometry: &Geometry,
-    journal: &Journal,
-) -> Result<(), Memory>
-    requires { IsArray geometry.now }
-{
-    let mut beginning = Journal::new(alloc);
-    for entry in journal.as_slice() {
-        beginning.push(entry.copy(alloc)?)?;
-        push_number(text, entry.stamp)?;
-        for stripe in 0..geometry.stripes {
-            text.push_slice(b" ")?;
-            push_hex(text, sum(alloc, &beginning, geometry, stripe)?.as_slice())?;
-        }
-        text.push_slice(b"\n")?;
-    }
-    Ok(())
 }

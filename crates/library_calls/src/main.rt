@@ -4,7 +4,16 @@
 //! summary.
 #![tactic(auto)]
 
+mod blocks;
+mod buffers;
 mod calls;
+mod journals;
+mod outside;
+mod pages;
+mod requests;
+mod scripts;
+mod state;
+mod tables;
 
 use calls::{Answer, answer_to};
 use program_status::{Status, Verdict};

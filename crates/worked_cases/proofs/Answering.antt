@@ -2,10 +2,10 @@
 use Rattle.std.proofs.Common.{◌≡◌, ℕ, List, [], Some, Result, Ok, Err, IfOk, sym, subst}
 use Rattle.array_journal.specs.declared.entry.Entry.{Entry}
 use Rattle.blocks_core.specs.declared.memory.Memory.{Memory}
-use Rattle.worked_cases.specs.declared.answers.Answer.{Answer}
+use Rattle.worked_cases.specs.declared.answers.TopAnswer.{TopAnswer}
 use Rattle.worked_cases.specs.Answers.{ToolSays, CheckSays, IsToolAnswer, IsCheckAnswer}
 
-pub tool-told : (words : List (List ℕ)) (left input out new_out notes new_notes : List ℕ) (status : ℕ) (journal : List Entry) (result : Result Answer Memory) →
+pub tool-told : (words : List (List ℕ)) (left input out new_out notes new_notes : List ℕ) (status : ℕ) (journal : List Entry) (result : Result TopAnswer Memory) →
     input ≡ left → out ≡ [] → notes ≡ [] →
     IfOk result (λ answer. answer.status ≡ status) → IfOk result (λ answer. answer.out ≡ new_out) → IfOk result (λ answer. answer.notes ≡ new_notes) →
     ToolSays words (Some input) (Some out) (Some new_out) (Some notes) (Some new_notes) status journal → IfOk result (IsToolAnswer words left)
@@ -18,7 +18,7 @@ tool-told words left input out new_out notes new_notes status journal (Ok answer
     (journal, subst (λ (x : ℕ). ToolSays words (Some left) (Some []) (Some answer.out) (Some []) (Some answer.notes) x journal) (sym s) at_noted)
 tool-told words left input out new_out notes new_notes status journal (Err error) i o n s written noted says = tt
 
-pub check-told : (words : List (List ℕ)) (left input out new_out notes new_notes : List ℕ) (status : ℕ) (result : Result Answer Memory) →
+pub check-told : (words : List (List ℕ)) (left input out new_out notes new_notes : List ℕ) (status : ℕ) (result : Result TopAnswer Memory) →
     input ≡ left → out ≡ [] → notes ≡ [] →
     IfOk result (λ answer. answer.status ≡ status) → IfOk result (λ answer. answer.out ≡ new_out) → IfOk result (λ answer. answer.notes ≡ new_notes) →
     CheckSays words (Some input) (Some out) (Some new_out) (Some notes) (Some new_notes) status → IfOk result (IsCheckAnswer words left)

@@ -7,8 +7,8 @@ use Rattle.trace_check.specs.Endings.{IsDone as IsAcceptance}
 use Rattle.xor_cli.specs.Endings.{IsDone, IsRefusalNoted, IsExcessNoted}
 use Rattle.program_status.specs.Statuses.{IsOneOf}
 use Rattle.program_status.specs.Stops.{noted_for}
-use Rattle.xor_cli.specs.Words.{SpellsNone}
-use Rattle.worked_cases.specs.declared.answers.Answer.{Answer}
+use Rattle.xor_cli.specs.Words.{SpellsNoToolCommand}
+use Rattle.worked_cases.specs.declared.answers.TopAnswer.{TopAnswer}
 use Rattle.worked_cases.specs.declared.calls.Program.{Program}
 use Rattle.worked_cases.specs.declared.calls.Program.TheVariants.{Array, Checker}
 
@@ -17,7 +17,7 @@ pub record ToolSays (words : List (List ℕ)) (input out new_out notes new_notes
   pub done : status ≡ 0 → IsDone words input out new_out journal
   pub refused : status ≡ 2 → IsRefusalNoted words input notes new_notes
   pub exceeded : status ≡ 7 → IsExcessNoted words input notes new_notes
-  pub usage : status ≡ 64 → SpellsNone words
+  pub usage : status ≡ 64 → SpellsNoToolCommand words
   pub no_other : IsOneOf (0 ∷ 2 ∷ 3 ∷ 4 ∷ 5 ∷ 7 ∷ 64 ∷ []) status
   pub unwritten : status ≢ 0 → status ≢ 4 → (new_out ≡ out) × (journal ≡ [])
   pub noted : status ≢ 2 → status ≢ 7 → status ≢ 4 → Appends notes new_notes (noted_for status)
@@ -34,15 +34,15 @@ pub record CheckSays (words : List (List ℕ)) (input out new_out notes new_note
   pub noted : IsOneOf (0 ∷ 3 ∷ 5 ∷ 64 ∷ []) status → Appends notes new_notes (noted_for status)
 
 -- an answer of `tool` where nothing was written before it
-abbrev pub IsToolAnswer : List (List ℕ) → List ℕ → Answer → Type 0
+abbrev pub IsToolAnswer : List (List ℕ) → List ℕ → TopAnswer → Type 0
 IsToolAnswer words input answer =
     (journal : List Entry) × ToolSays words (Some input) (Some []) (Some answer.out) (Some []) (Some answer.notes) answer.status journal
 
 -- an answer of `check`
-abbrev pub IsCheckAnswer : List (List ℕ) → List ℕ → Answer → Type 0
+abbrev pub IsCheckAnswer : List (List ℕ) → List ℕ → TopAnswer → Type 0
 IsCheckAnswer words input answer = CheckSays words (Some input) (Some []) (Some answer.out) (Some []) (Some answer.notes) answer.status
 
 -- an answer of a program's top call
-abbrev pub IsAnswer : Program → List (List ℕ) → List ℕ → Answer → Type 0
+abbrev pub IsAnswer : Program → List (List ℕ) → List ℕ → TopAnswer → Type 0
 IsAnswer Array words input answer = IsToolAnswer words input answer
 IsAnswer Checker words input answer = IsCheckAnswer words input answer

@@ -4,10 +4,10 @@ use Rattle.std.specs.Io.KnownBytes.{Appends}
 use Rattle.outer_io.specs.Outside.{input_limit}
 use Rattle.program_status.specs.declared.status.Verdict.{Verdict}
 use Rattle.program_status.specs.declared.status.Verdict.TheVariants.{Refused}
-use Rattle.program_status.specs.declared.stops.Stop.{Stop}
+use Rattle.program_status.specs.declared.stops.ProgramStop.{ProgramStop}
 use Rattle.program_status.specs.Endings.{Counts, GainsOne, HasCause, StopsBy, StopsReading}
 use Rattle.worked_cases.specs.declared.faults.ListFault.TheVariants as faults
-use Rattle.worked_cases.specs.declared.lists.Run.{Run}
+use Rattle.worked_cases.specs.declared.lists.CaseRun.{CaseRun}
 use Rattle.worked_cases.specs.declared.top.NoList.{NoList}
 use Rattle.worked_cases.specs.Faults.{fault_line}
 use Rattle.worked_cases.specs.Lines.{IsFaultOf}
@@ -15,7 +15,7 @@ use Rattle.worked_cases.specs.Runs.{AreTold}
 
 -- the text tells what the calls of runs answered
 abbrev pub IsAnswered : List ℕ → Type 0
-IsAnswered text = (runs : List Run) × AreTold runs [] text
+IsAnswered text = (runs : List CaseRun) × AreTold runs [] text
 
 -- a list that is none is refused with this line
 abbrev pub verdict_of : NoList → Verdict
@@ -33,11 +33,11 @@ abbrev pub IsNoLineOf : Option (List ℕ) → NoList → Type 0
 IsNoLineOf input finding = IfSome input (λ bytes. IsNoLine (take (input_limit + 1) bytes) finding)
 
 -- what there is in a list that stops it
-abbrev pub StopsList : List ℕ → Stop NoList → Type 0
+abbrev pub StopsList : List ℕ → ProgramStop NoList → Type 0
 StopsList list stop = StopsBy no_list_line (IsNoLine list) stop
 
 -- what there is in the input and in the source's count of faults
-abbrev pub StopsSource : Option (List ℕ) → ℕ → ℕ → Stop NoList → Type 0
+abbrev pub StopsSource : Option (List ℕ) → ℕ → ℕ → ProgramStop NoList → Type 0
 StopsSource input before after stop = StopsReading no_list_line (IsNoLineOf input) before after stop
 
 -- the program has no words, and always reads its source

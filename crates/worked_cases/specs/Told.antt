@@ -3,9 +3,9 @@ use Rattle.std.specs.Prelude.{ℕ, ◌==◌, ◌||◌, ◌&&◌, nat_le, Bool, i
 use Rattle.std.specs.List.{list_all}
 use Rattle.std.specs.Fmt.{decimal}
 use Rattle.text_fields.specs.Spelling.{hex}
-use Rattle.worked_cases.specs.declared.answers.Answer.{Answer}
-use Rattle.worked_cases.specs.declared.lists.Value.{Value}
-use Rattle.worked_cases.specs.declared.lists.Value.TheVariants as values
+use Rattle.worked_cases.specs.declared.answers.TopAnswer.{TopAnswer}
+use Rattle.worked_cases.specs.declared.lists.CaseValue.{CaseValue}
+use Rattle.worked_cases.specs.declared.lists.CaseValue.TheVariants as values
 
 -- a text of lines of bytes that are seen
 abbrev pub is_plain : List ℕ → Bool
@@ -30,21 +30,21 @@ abbrev pub status_told : ℕ → List ℕ
 status_told status = codes "  status " ++ decimal status ++ 10 ∷ []
 
 -- an answer: its status, and what was written to out and to notes
-abbrev pub answer_told : Answer → List ℕ
+abbrev pub answer_told : TopAnswer → List ℕ
 answer_told answer = status_told answer.status ++ written_told (codes "  out ") answer.out ++ written_told (codes "  notes ") answer.notes
 
 -- a value as it is written in lines
-abbrev pub value_text : Value → List ℕ
+abbrev pub value_text : CaseValue → List ℕ
 value_text values.None = []
 value_text (values.Text bytes) = bytes
 value_text (values.Number number) = decimal number
 
 -- what parts a case's name from the value
-abbrev pub value_mark : Value → List ℕ
+abbrev pub value_mark : CaseValue → List ℕ
 value_mark values.None = []
 value_mark (values.Text bytes) = codes ": "
 value_mark (values.Number number) = codes ": "
 
 -- which run of a case it is
-abbrev pub heading_told : List ℕ → Value → List ℕ
+abbrev pub heading_told : List ℕ → CaseValue → List ℕ
 heading_told name value = name ++ value_mark value ++ value_text value ++ 10 ∷ []

@@ -5,7 +5,7 @@ ghost use Rattle.worked_cases.specs.Answers.{IsToolAnswer, IsCheckAnswer};
 ghost use Rattle.worked_cases.specs.Runs.{Answers};
 ghost use Rattle.program_status.specs.Words.{texts};
 
-use crate::calls::{Call, Outlet, Program};
+use crate::calls::{Outlet, Program, TopCall};
 use blocks_core::{Bytes, Memory};
 use outer_io::{FailingSink, FailingSource};
 use std::alloc::Global;
@@ -14,7 +14,7 @@ use xor_cli::tool;
 
 /// What a top call answers: the status, and what it wrote.
 #[derive(Drop)]
-pub struct Answer {
+pub struct TopAnswer {
     pub status: u8,
     pub out: Bytes,
     pub notes: Bytes,
@@ -34,12 +34,12 @@ fn answer_of(
     status: u8,
     out: &FailingSink,
     notes: &FailingSink,
-) -> Result<Answer, Memory>
+) -> Result<TopAnswer, Memory>
     ensures status { IfOk result (λ answer. answer.status ≡ status) }
     ensures out { IfOk result (λ answer. answer.out ≡ out.now.sink.bytes) }
     ensures notes { IfOk result (λ answer. answer.notes ≡ notes.now.sink.bytes) }
 {
-    Ok(Answer {
+    Ok(TopAnswer {
         status,
         out: Bytes::from_slice(alloc, out.bytes())?,
         notes: Bytes::from_slice(alloc, notes.bytes())?,
@@ -47,10 +47,10 @@ fn answer_of(
 }
 
 /// What `tool` answers.
-fn tool_answer(alloc: Global, call: Call) -> Result<Answer, Memory>
+fn tool_answer(alloc: Global, call: TopCall) -> Result<TopAnswer, Memory>
     ensures { IfOk result (IsToolAnswer (texts call.words.items) call.input) }
 {
-    let Call {
+    let TopCall {
         words,
         input,
         source_fails,
@@ -66,10 +66,10 @@ fn tool_answer(alloc: Global, call: Call) -> Result<Answer, Memory>
 }
 
 /// What `check` answers.
-fn check_answer(alloc: Global, call: Call) -> Result<Answer, Memory>
+fn check_answer(alloc: Global, call: TopCall) -> Result<TopAnswer, Memory>
     ensures { IfOk result (IsCheckAnswer (texts call.words.items) call.input) }
 {
-    let Call {
+    let TopCall {
         words,
         input,
         source_fails,
@@ -85,7 +85,7 @@ fn check_answer(alloc: Global, call: Call) -> Result<Answer, Memory>
 }
 
 /// What a call answers.
-pub fn answer_to(alloc: Global, call: Call) -> Result<Answer, Memory>
+pub fn answer_to(alloc: Global, call: TopCall) -> Result<TopAnswer, Memory>
     ensures { IfOk result (Answers call) }
 {
     match call.program {

@@ -2,7 +2,7 @@
 
 use crate::faults::{Expected, Wrong};
 use crate::lines::{cut_at, number_of, numbers_of};
-use crate::texts::{Blocks, take_line};
+use crate::texts::{NamedTexts, take_line};
 use blocks_core::{Bytes, Memory};
 use std::alloc::Global;
 
@@ -27,7 +27,7 @@ pub struct Outlet {
 
 /// A top call, and what is handed to it.
 #[derive(Drop)]
-pub struct Call {
+pub struct TopCall {
     pub program: Program,
     pub words: Vec<String>,
     pub input: Bytes,
@@ -133,7 +133,7 @@ impl Draft {
     }
 
     /// Takes one more line of a case. Those that say what varies were taken already.
-    pub fn take(&mut self, alloc: Global, blocks: &Blocks, line: &[u8]) -> Result<(), Wrong> {
+    pub fn take(&mut self, alloc: Global, blocks: &NamedTexts, line: &[u8]) -> Result<(), Wrong> {
         let (keyword, rest) = cut_at(line, b' ');
         match keyword {
             b"run" => self.take_run(alloc, rest),
@@ -145,7 +145,7 @@ impl Draft {
     }
 
     /// The call, where its program was said.
-    pub fn finished(self) -> Result<Call, Wrong> {
+    pub fn finished(self) -> Result<TopCall, Wrong> {
         let Draft {
             program,
             words,
@@ -155,7 +155,7 @@ impl Draft {
             notes,
         } = self;
         match program {
-            Some(program) => Ok(Call {
+            Some(program) => Ok(TopCall {
                 program,
                 words,
                 input,

@@ -5,10 +5,10 @@ ghost use Rattle.worked_cases.specs.Lines.{IsLine, AreLines, IsFaultOf};
 ghost use Rattle.worked_cases.specs.Parts.{IsPart};
 ghost use Rattle.worked_cases.specs.Told.{value_text};
 
-use crate::calls::{Call, Draft};
+use crate::calls::{Draft, TopCall};
 use crate::faults::{Expected, ListFault, Wrong};
 use crate::lines::{Line, cut_at, filled, lines_of, number_of};
-use crate::texts::{Blocks, take_line};
+use crate::texts::{NamedTexts, take_line};
 use blocks_core::{Bytes, Memory};
 use outer_io::READ_LIMIT;
 use std::alloc::Global;
@@ -16,7 +16,7 @@ use text_fields::push_number;
 
 /// What is written in a case's lines in the place of `{}`.
 #[derive(Drop)]
-pub enum Value {
+pub enum CaseValue {
     /// Nothing: the lines stand as they are.
     None,
     Text(Bytes),
@@ -25,15 +25,15 @@ pub enum Value {
 
 /// One call of a case.
 #[derive(Drop)]
-pub struct Run {
+pub struct CaseRun {
     pub name: Bytes,
-    pub value: Value,
-    pub call: Call,
+    pub value: CaseValue,
+    pub call: TopCall,
 }
 
 /// What a part of a list is.
 #[derive(Clone, Copy, Debug, PartialEq, Eq)]
-enum Kind {
+enum PartKind {
     Block,
     Case,
 }
@@ -41,7 +41,7 @@ enum Kind {
 /// A block or a case: the line that has its name, and the lines behind that one.
 #[derive(Clone, Copy)]
 struct Part<'a, 'l> {
-    kind: Kind,
+    kind: PartKind,
     name: &'a [u8],
     number: u32,
     lines: &'l [Line<'a>],
@@ -50,16 +50,16 @@ struct Part<'a, 'l> {
 /// What is read of a list so far.
 #[derive(Drop)]
 struct Gathered {
-    blocks: Blocks,
-    runs: Vec<Run>,
+    blocks: NamedTexts,
+    runs: Vec<CaseRun>,
 }
 
 /// What a line begins, and its name.
-fn opening_of(text: &[u8]) -> Option<(Kind, &[u8])> {
+fn opening_of(text: &[u8]) -> Option<(PartKind, &[u8])> {
     let (keyword, name) = cut_at(text, b' ');
     match keyword {
-        b"block" => Some((Kind::Block, name)),
-        b"case" => Some((Kind::Case, name)),
+        b"block" => Some((PartKind::Block, name)),
+        b"case" => Some((PartKind::Case, name)),
         _ => None,
     }
 }
@@ -92,29 +92,29 @@ fn ends_of(text: &[u8]) -> Result<(u32, u32), Wrong>
 }
 
 /// Puts a value at the end of a text, as it is written.
-pub fn push_value(text: &mut Bytes, value: &Value) -> Result<(), Memory>
+pub fn push_value(text: &mut Bytes, value: &CaseValue) -> Result<(), Memory>
     ensures { OnOk result (text.new ≡ text.old ++ value_text value.now) }
 {
     match value {
-        Value::None => Ok(()),
-        Value::Text(bytes) => text.push_slice(bytes.as_slice()),
-        Value::Number(number) => push_number(text, u64::from(*number)),
+        CaseValue::None => Ok(()),
+        CaseValue::Text(bytes) => text.push_slice(bytes.as_slice()),
+        CaseValue::Number(number) => push_number(text, u64::from(*number)),
     }
 }
 
 /// A line with a value in it.
-fn written(alloc: Global, text: &[u8], value: &Value) -> Result<Bytes, Memory> {
+fn written(alloc: Global, text: &[u8], value: &CaseValue) -> Result<Bytes, Memory> {
     let mut filling = Bytes::new(alloc);
     push_value(&mut filling, value)?;
     match value {
-        Value::None => Bytes::from_slice(alloc, text),
+        CaseValue::None => Bytes::from_slice(alloc, text),
         _ => filled(alloc, text, filling.as_slice()),
     }
 }
 
 impl Gathered {
     /// The call that the lines of a case make with a value.
-    fn call_of(&self, alloc: Global, part: Part, value: &Value) -> Result<Call, ListFault>
+    fn call_of(&self, alloc: Global, part: Part, value: &CaseValue) -> Result<TopCall, ListFault>
         ensures { (list : List ℕ) → IsPart list part.entry → IfErr result (IsFaultOf list) }
     {
         let mut draft = Draft::new(alloc);
@@ -132,13 +132,13 @@ impl Gathered {
     }
 
     /// Adds the run of a case with a value.
-    fn add_run(&mut self, alloc: Global, part: Part, value: Value) -> Result<(), ListFault>
+    fn add_run(&mut self, alloc: Global, part: Part, value: CaseValue) -> Result<(), ListFault>
         ensures { (list : List ℕ) → IsPart list part.entry → IfErr result (IsFaultOf list) }
     {
         let call = self.call_of(alloc, part, &value)?;
         let name = Bytes::from_slice(alloc, part.name)?;
         self.runs
-            .push(Run { name, value, call })
+            .push(CaseRun { name, value, call })
             .map_err(Memory::from)?;
         Ok(())
     }
@@ -155,7 +155,7 @@ impl Gathered {
         ensures { (list : List ℕ) → IsPart list part.entry → IfErr result (IsFaultOf list) }
     {
         for number in first..last + 1 {
-            self.add_run(alloc, part, Value::Number(number))?;
+            self.add_run(alloc, part, CaseValue::Number(number))?;
         }
         Ok(())
     }
@@ -168,7 +168,7 @@ impl Gathered {
         match keyword {
             b"each" => {
                 let text = Bytes::from_slice(alloc, rest)?;
-                self.add_run(alloc, part, Value::Text(text))?;
+                self.add_run(alloc, part, CaseValue::Text(text))?;
                 Ok(true)
             }
             b"from" => match ends_of(rest) {
@@ -196,7 +196,7 @@ impl Gathered {
         if varies {
             Ok(())
         } else {
-            self.add_run(alloc, part, Value::None)
+            self.add_run(alloc, part, CaseValue::None)
         }
     }
 
@@ -219,8 +219,8 @@ impl Gathered {
         ensures { (list : List ℕ) → IsPart list part.entry → IfErr result (IsFaultOf list) }
     {
         match part.kind {
-            Kind::Block => self.add_block(alloc, part),
-            Kind::Case => self.add_case(alloc, part),
+            PartKind::Block => self.add_block(alloc, part),
+            PartKind::Case => self.add_case(alloc, part),
         }
     }
 
@@ -245,7 +245,7 @@ impl Gathered {
 }
 
 /// The runs that a list asks for.
-pub fn runs_of(alloc: Global, list: &[u8]) -> Result<Vec<Run>, ListFault>
+pub fn runs_of(alloc: Global, list: &[u8]) -> Result<Vec<CaseRun>, ListFault>
     ensures { IfErr result (IsFaultOf list.now) }
 {
     if list.len() > READ_LIMIT {
@@ -253,7 +253,7 @@ pub fn runs_of(alloc: Global, list: &[u8]) -> Result<Vec<Run>, ListFault>
     }
     let lines = lines_of(alloc, list)?;
     let mut gathered = Gathered {
-        blocks: Blocks::new(alloc),
+        blocks: NamedTexts::new(alloc),
         runs: Vec::new(alloc),
     };
     let lines = lines.as_slice();

@@ -5,8 +5,8 @@ ghost use Rattle.text_fields.specs.Spelling.{hex};
 ghost use Rattle.worked_cases.specs.Told.{is_plain, piece_told, lines_told, written_told, status_told, answer_told, heading_told};
 ghost use Rattle.worked_cases.specs.Runs.{AreTold, IsTold};
 
-use crate::answers::{Answer, answer_to};
-use crate::lists::{Run, Value, push_value};
+use crate::answers::{TopAnswer, answer_to};
+use crate::lists::{CaseRun, CaseValue, push_value};
 use blocks_core::{Bytes, Memory};
 use std::alloc::Global;
 use text_fields::{push_hex, push_number};
@@ -79,7 +79,7 @@ fn push_status(text: &mut Bytes, status: u8) -> Result<(), Memory>
     text.push(b'\n')
 }
 
-fn push_answer(alloc: Global, text: &mut Bytes, answer: &Answer) -> Result<(), Memory>
+fn push_answer(alloc: Global, text: &mut Bytes, answer: &TopAnswer) -> Result<(), Memory>
     ensures { OnOk result (text.new ≡ text.old ++ answer_told answer.now) }
 {
     push_status(text, answer.status)?;
@@ -88,12 +88,12 @@ fn push_answer(alloc: Global, text: &mut Bytes, answer: &Answer) -> Result<(), M
 }
 
 /// Tells which run of a case it is.
-fn push_heading(text: &mut Bytes, name: &[u8], value: &Value) -> Result<(), Memory>
+fn push_heading(text: &mut Bytes, name: &[u8], value: &CaseValue) -> Result<(), Memory>
     ensures { OnOk result (text.new ≡ text.old ++ heading_told name.now value.now) }
 {
     text.push_slice(name)?;
     match value {
-        Value::None => {}
+        CaseValue::None => {}
         _ => text.push_slice(b": ")?,
     }
     push_value(text, value)?;
@@ -101,17 +101,17 @@ fn push_heading(text: &mut Bytes, name: &[u8], value: &Value) -> Result<(), Memo
 }
 
 /// Makes the call of a run, and tells what it answers.
-pub fn push_run(alloc: Global, text: &mut Bytes, run: Run) -> Result<(), Memory>
+pub fn push_run(alloc: Global, text: &mut Bytes, run: CaseRun) -> Result<(), Memory>
     ensures { OnOk result (IsTold run text.old text.new) }
 {
-    let Run { name, value, call } = run;
+    let CaseRun { name, value, call } = run;
     push_heading(text, name.as_slice(), &value)?;
     let answer = answer_to(alloc, call)?;
     push_answer(alloc, text, &answer)
 }
 
 /// Makes the calls of all runs in their order, and tells what they answer.
-pub fn told(alloc: Global, runs: Vec<Run>) -> Result<Bytes, Memory>
+pub fn told(alloc: Global, runs: Vec<CaseRun>) -> Result<Bytes, Memory>
     ensures { IfOk result (AreTold runs.items []) }
 {
     let mut text = Bytes::new(alloc);

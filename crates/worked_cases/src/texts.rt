@@ -12,28 +12,28 @@ const LONGEST: usize = 67_108_864;
 
 /// A text with a name.
 #[derive(Drop)]
-struct Block {
+struct NamedText {
     name: Bytes,
     text: Bytes,
 }
 
 /// Texts with names.
 #[derive(Drop)]
-pub struct Blocks {
-    kept: Vec<Block>,
+pub struct NamedTexts {
+    kept: Vec<NamedText>,
 }
 
-impl Blocks {
+impl NamedTexts {
     /// None. Takes no memory.
-    pub fn new(alloc: Global) -> Blocks {
-        Blocks {
+    pub fn new(alloc: Global) -> NamedTexts {
+        NamedTexts {
             kept: Vec::new(alloc),
         }
     }
 
     /// Adds a text with its name.
     pub fn push(&mut self, name: Bytes, text: Bytes) -> Result<(), Memory> {
-        self.kept.push(Block { name, text })?;
+        self.kept.push(NamedText { name, text })?;
         Ok(())
     }
 
@@ -99,7 +99,7 @@ fn take_written(alloc: Global, text: &mut Bytes, line: &[u8]) -> Result<(), Wron
 /// Takes one more line of a text.
 pub fn take_line(
     alloc: Global,
-    blocks: &Blocks,
+    blocks: &NamedTexts,
     text: &mut Bytes,
     line: &[u8],
 ) -> Result<(), Wrong> {

@@ -9,7 +9,7 @@ use crate::lists::runs_of;
 use crate::telling::told;
 use blocks_core::{Bytes, Memory};
 use outer_io::{Sink, Source, read_input};
-use program_status::{Finding, Stop, Verdict, found, hand_note, hand_out};
+use program_status::{Finding, ProgramStop, Verdict, found, hand_note, hand_out};
 use std::alloc::Global;
 
 /// That a list is none: this line of it, from 1, is none that may stand there.
@@ -36,7 +36,7 @@ impl Finding for NoList {
 }
 
 /// What there is to write for the list that a source gives.
-fn work<S: Source>(alloc: Global, source: &mut S) -> Result<Bytes, Stop<NoList>>
+fn work<S: Source>(alloc: Global, source: &mut S) -> Result<Bytes, ProgramStop<NoList>>
     ensures made { IfOk result IsAnswered }
     ensures stop { IfErr result (StopsSource (S.left source.old) (S.faults source.old) (S.faults source.new)) }
 {
@@ -45,7 +45,7 @@ fn work<S: Source>(alloc: Global, source: &mut S) -> Result<Bytes, Stop<NoList>>
 }
 
 /// What there is to write for a list.
-fn answers_of(alloc: Global, list: &[u8]) -> Result<Bytes, Stop<NoList>>
+fn answers_of(alloc: Global, list: &[u8]) -> Result<Bytes, ProgramStop<NoList>>
     ensures made { IfOk result IsAnswered }
     ensures stop { IfErr result (StopsList list.now) }
 {
@@ -54,7 +54,7 @@ fn answers_of(alloc: Global, list: &[u8]) -> Result<Bytes, Stop<NoList>>
         Err(ListFault::Line { number, expected }) => {
             Err(found(alloc, NoList { number, expected }))
         }
-        Err(ListFault::Memory) => Err(Stop::Memory),
+        Err(ListFault::Memory) => Err(ProgramStop::Memory),
     }
 }
 
