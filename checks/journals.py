@@ -5,26 +5,42 @@
     journals.py FOLDER answers    writes what it has to answer
 
 FOLDER has NAME.script and NAME.trace for each journal that is a run; changed.txt, journals that differ in
-one place; one-rule.txt, journals that one rule alone refuses at their last entry. Journals of scripts of
-version 2 are left out, as long as scripts have one version. Beside this script further.txt has more
-journals of these kinds, and lines.txt lines of traces: the answers to these are written there by hand."""
+one place; one-rule.txt, journals that one rule alone refuses at their last entry. A setting is a line of targets,
+block, areas (unit.stripes, joined by commas), buffer and mode; one of several areas becomes a script of
+version 2. Beside this script further.txt has more journals of these kinds, and lines.txt lines of traces: the
+answers to these are written there by hand."""
 import json
 import pathlib
 import re
 import sys
 
 
+def header_of(script):
+    """The words of the lines up to that of the hosts: each line's first word, and the rest."""
+    for line in script.splitlines():
+        yield line.split(" ", 1)
+        if line.startswith("hosts "):
+            return
+
+
 def setting_of(script):
-    words = dict(line.split(" ", 1) for line in script.splitlines()[:8])
-    area = f"{words['unit']}.{words['stripes']}"
-    return " ".join([words["targets"], words["block"], area, words["buffer"], words["mode"]])
+    lines = [*header_of(script)]
+    words = dict(lines)
+    # A script of version 2 has a line for each area.
+    areas = [said.replace(" ", ".") for word, said in lines if word == "area"]
+    areas = areas or [f"{words['unit']}.{words['stripes']}"]
+    return " ".join([words["targets"], words["block"], ",".join(areas), words["buffer"], words["mode"]])
 
 
 def script_of(setting):
-    targets, block, area, buffer, mode = setting.split(" ")
-    unit, stripes = area.split(".")
-    lines = ["xorscript 1", f"targets {targets}", f"block {block}", f"unit {unit}", f"stripes {stripes}",
-             f"buffer {buffer}", "maxima 0 0 0", f"mode {mode}", "seed 1", "hosts 1"]
+    targets, block, areas, buffer, mode = setting.split(" ")
+    areas = [area.split(".") for area in areas.split(",")]
+    if len(areas) == 1:
+        first, shape = "xorscript 1", [f"unit {areas[0][0]}", f"stripes {areas[0][1]}"]
+    else:
+        first, shape = "xorscript 2", [f"areas {len(areas)}", *(f"area {unit} {stripes}" for unit, stripes in areas)]
+    lines = [first, f"targets {targets}", f"block {block}", *shape, f"buffer {buffer}", "maxima 0 0 0", f"mode {mode}",
+             "seed 1", "hosts 1"]
     return "".join(line + "\n" for line in lines)
 
 
@@ -51,9 +67,7 @@ def change(lines, what):
 
 def worked(folder):
     for path in sorted(folder.glob("*.script")):
-        script = path.read_text()
-        if script.startswith("xorscript 1\n"):
-            yield path.stem, setting_of(script), path.with_suffix(".trace").read_text().splitlines()
+        yield path.stem, setting_of(path.read_text()), path.with_suffix(".trace").read_text().splitlines()
 
 
 def ruled(text):
