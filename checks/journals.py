@@ -86,8 +86,6 @@ def journals(folder):
         yield f"run:{name}", setting, trace, 0
     for n, line in enumerate((folder / "changed.txt").read_text().splitlines()):
         name, what, found, rule = [w.strip() for w in line.split("|")]
-        if name not in runs:
-            continue
         setting, trace = runs[name]
         number = int(re.match(r"entry (\d+)", found)[1])
         yield f"changed:{n + 1}:{name}:{rule.replace(' ', '_')}", setting, change(trace, what), number

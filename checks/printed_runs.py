@@ -6,8 +6,7 @@
 FOLDER has NAME.script, NAME.report and NAME.trace for each run; each must be accepted. changed.txt has
 journals that differ in one place: each must be rejected at its entry, or at its line where the change is
 no line of a trace. A report that lacks its first line, or has it twice, must be rejected at that line.
-Scripts of version 2 are left out, as long as scripts have one version. Where there is no such folder,
-nothing is fed."""
+Where there is no such folder, nothing is fed."""
 import pathlib
 import re
 import subprocess
@@ -26,8 +25,6 @@ def cases(folder):
     runs = {}
     for path in sorted(folder.glob("*.script")):
         script, report = path.read_text(), path.with_suffix(".report").read_text()
-        if not script.startswith("xorscript 1\n"):
-            continue
         trace = path.with_suffix(".trace").read_text().splitlines()
         runs[path.stem] = (script, report, trace)
         lines = report.splitlines(keepends=True)
@@ -36,8 +33,6 @@ def cases(folder):
         yield f"{path.stem}:no first line", (script, "".join(lines[1:]), trace), (1, "", "rejected report line 1\n")
     for row in (folder / "changed.txt").read_text().splitlines():
         name, what, found, rule = (word.strip() for word in row.split("|"))
-        if name not in runs:
-            continue
         script, report, trace = runs[name]
         number = int(re.match(r"entry (\d+)", found)[1])
         changed = change(trace, what)
