@@ -37,7 +37,7 @@ unwanted code rest c want first none known =
     cc
 
 -- bytes of a known code and its length with no reserved bit have no fault
-clean_faultless : (bytes : List ℕ) (f : CdbFault) → Clean bytes → IsFault bytes f → ⊥
+pub clean_faultless : (bytes : List ℕ) (f : CdbFault) → Clean bytes → IsFault bytes f → ⊥
 clean_faultless [] f h e = absurd (none_some h.known)
   where
     none_some : None ≡ Some h.mask → ⊥

@@ -1,3 +1,5 @@
 pub mod Spelled
 pub mod Again
 pub mod Answers
+pub mod Offending
+pub mod Decoded

@@ -1,5 +1,5 @@
 -- Why bytes spell no command: the operation code comes before the length, and the length before the bits.
-use Rattle.std.specs.Prelude.{◌≡◌, ◌≢◌, ℕ, ◌==◌, ◌||◌, List, [], ◌∷◌, if◌then◌else◌, length, Option, Some, None, slice_get, option_map}
+use Rattle.std.specs.Prelude.{◌≡◌, ◌≢◌, ℕ, suc, ◌==◌, ◌||◌, List, [], ◌∷◌, if◌then◌else◌, length, Option, Some, None, slice_get, option_map, bit_and}
 use Rattle.cdb_fields.specs.Fields.{IsFirstShared}
 use Rattle.sbc_cdbs.specs.declared.decoding.CdbFault.{CdbFault}
 use Rattle.sbc_cdbs.specs.declared.decoding.CdbFault.TheVariants.{OpCode, Length, Bits}
@@ -28,6 +28,12 @@ reserved_bits code =
 abbrev pub mask_of : List ℕ → Option (List ℕ)
 mask_of [] = None
 mask_of (code ∷ rest) = reserved_bits code
+
+-- the lowest byte, from this one on, with a bit that must be zero and is one
+abbrev pub first_offending : ℕ → List ℕ → List ℕ → Option ℕ
+first_offending byte [] cdb = None
+first_offending byte (m ∷ mask) [] = None
+first_offending byte (m ∷ mask) (b ∷ cdb) = if bit_and m b == 0 then first_offending (suc byte) mask cdb else Some byte
 
 -- how many bytes are wanted: as many as the operation code has, and one where there is no code
 abbrev pub wanted_length : List ℕ → Option ℕ

@@ -1,3 +1,4 @@
 pub mod Cdbs
 pub mod Faults
 pub mod Reading
+pub mod Kinds

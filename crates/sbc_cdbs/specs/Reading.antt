@@ -1,6 +1,8 @@
 -- The values of the fields of a block.
-use Rattle.std.specs.Prelude.{ℕ, ◌==◌, List, if◌then◌else◌, slice_index}
+use Rattle.std.specs.Prelude.{ℕ, ◌==◌, List, get_or, if◌then◌else◌, slice_index, Option, Some, None}
+use Rattle.std.specs.Str.{bytes_eq}
 use Rattle.cdb_fields.specs.Fields.{bits, is_one, number_at}
+use Rattle.sbc_cdbs.specs.Cdbs.{spelling}
 use Rattle.sbc_cdbs.specs.declared.commands.Command.{Command}
 use Rattle.sbc_cdbs.specs.declared.commands.Command.TheVariants.{Read, Write, XdWrite, XpWrite, XdRead, XdWriteRead, ModeSelect, ModeSense, XdWriteExtended, Rebuild, Regenerate}
 
@@ -20,3 +22,8 @@ command_of code b =
     else if code == 0x81 then
     Rebuild (is_one 1 4 b) (is_one 1 3 b) (is_one 1 2 b) (number_at 2 4 b) (number_at 6 4 b) (number_at 10 4 b)
     else Regenerate (is_one 1 4 b) (is_one 1 3 b) (is_one 1 2 b) (number_at 2 4 b) (number_at 6 4 b) (number_at 10 4 b)
+
+-- the command that bytes decode to: that of their fields, where they are its spelling
+unfoldable pub decoded : List ℕ → Option Command
+decoded bytes =
+    if bytes_eq bytes (spelling (command_of (get_or bytes 0 0) bytes)) then Some (command_of (get_or bytes 0 0) bytes) else None

@@ -1,9 +1,9 @@
 ghost use Rattle.sbc_cdbs.specs.declared.commands.Command.{Command};
 ghost use Rattle.sbc_cdbs.specs.declared.decoding.CdbFault.{CdbFault};
-ghost use Rattle.std.specs.Prelude.{Ok, Err, IfOk, IfErr, ◌≡◌, Some, None, MatchOption, MatchResult, length, option_map};
+ghost use Rattle.std.specs.Prelude.{Ok, Err, IfOk, IfErr, ◌≡◌, Some, None, MatchOption, MatchResult, List, ℕ, length, option_map};
 ghost use Rattle.sbc_cdbs.specs.Faults.{reserved_bits, IsFault};
 ghost use Rattle.sbc_cdbs.specs.Cdbs.{SpellsCdb};
-ghost use Rattle.sbc_cdbs.specs.Reading.{command_of};
+ghost use Rattle.sbc_cdbs.specs.Reading.{command_of, decoded};
 
 use crate::Command;
 use crate::tables::*;
@@ -30,6 +30,12 @@ pub fn decode(bytes: &[u8]) -> Result<Command, CdbFault>
 {
     first_answer(bytes)
 }
+
+/// What bytes decode to as a function of them, `decoded`: the command that they spell, none where they have a fault.
+pub fn decoding_law()
+    ensures spelt { (bytes : List ℕ) (v : Command) → SpellsCdb bytes v → decoded bytes ≡ Some v }
+    ensures faulty { (bytes : List ℕ) (f : CdbFault) → IsFault bytes f → decoded bytes ≡ None }
+{}
 
 /// The same answer by one clause in the place of four: that a fault is answered exactly where it is the
 /// first follows from it, since bytes spell at most one command and have at most one first fault.

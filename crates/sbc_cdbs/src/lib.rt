@@ -6,9 +6,11 @@ mod commands;
 mod decoding;
 mod descriptor;
 mod encoding;
+mod kinds;
 mod tables;
 
 pub use commands::Command;
-pub use decoding::{CdbFault, decode};
+pub use decoding::{CdbFault, decode, decoding_law};
 pub use descriptor::Cdb;
 pub use encoding::{encode, spelling_law};
+pub use kinds::is_xor_code;
