@@ -1,3 +1,4 @@
 pub mod Senses
 pub mod Faults
 pub mod Reading
+pub mod Illegal

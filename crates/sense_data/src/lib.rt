@@ -3,6 +3,7 @@
 
 mod decoding;
 mod encoding;
+mod illegal;
 mod layout;
 mod senses;
 
