@@ -1,6 +1,6 @@
 -- The XOR control mode page (SBC) and the parameter lists of MODE SENSE and MODE SELECT (SPC). The highest
 -- byte of a number stands first.
-use Rattle.std.specs.Prelude.{◌≡◌, ◌≢◌, ◌⊎◌, ◌<◌, ◌≤◌, ◌^◌, ℕ, true, List, [], ◌∷◌, ◌++◌, if◌then◌else◌, length, slice_index, bit_and}
+use Rattle.std.specs.Prelude.{◌≡◌, ◌≢◌, ◌⊎◌, ◌<◌, ◌≤◌, ◌^◌, ◌==◌, ◌||◌, ℕ, suc, nat_lt, true, Option, Some, None, option_map, List, [], ◌∷◌, ◌++◌, if◌then◌else◌, length, slice_index, bit_and}
 use Rattle.std.specs.Int.{w16, w32, to_be_bytes}
 use Rattle.xor_mode_page.specs.declared.pages.XorPage.{XorPage}
 use Rattle.xor_mode_page.specs.declared.pages.PageFault.{PageFault}
@@ -86,3 +86,19 @@ abbrev pub IsListFault : List ℕ → PageFault → Type 0
 IsListFault list (Length want got) =
     ¬ HasLength list × (got ≡ length list) × (((length list < 8) × (want ≡ 8)) ⊎ ((8 ≤ length list) × (want ≡ 32)))
 IsListFault list (Field byte) = HasLength list × OffendsFirst list_bits list_values list byte
+
+-- ---- the same fault of a list, as a function of it
+
+-- the lowest byte, from this one on, at which a fixed bit has another value
+abbrev pub first_unlike : ℕ → List ℕ → List ℕ → List ℕ → Option ℕ
+first_unlike place bits values [] = None
+first_unlike place [] values (b ∷ bytes) = None
+first_unlike place (m ∷ bits) [] (b ∷ bytes) = None
+first_unlike place (m ∷ bits) (v ∷ values) (b ∷ bytes) =
+    if bit_and b m == v then first_unlike (suc place) bits values bytes else Some place
+
+-- the fault of the bytes as a list of MODE SELECT; none where they are such a list
+abbrev pub list_fault : List ℕ → Option PageFault
+list_fault list =
+    if length list == 0 || length list == 8 || length list == 32 then option_map Field (first_unlike 0 list_bits list_values list)
+    else Some (Length (if nat_lt (length list) 8 then 8 else 32) (length list))

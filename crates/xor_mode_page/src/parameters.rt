@@ -1,7 +1,7 @@
-ghost use Rattle.std.specs.Prelude.{◌≡◌, ◌≢◌, ◌≤◌, ◌<◌, ◌++◌, ℕ, length, drop, Err, IsOk, MatchOption, OnOk, OnErr, IfErr};
+ghost use Rattle.std.specs.Prelude.{◌≡◌, ◌≢◌, ◌≤◌, ◌<◌, ◌++◌, ℕ, length, drop, Some, None, Err, IsOk, MatchOption, MatchResult, OnOk, OnErr, IfErr};
 ghost use Rattle.xor_mode_page.specs.declared.pages.XorPage.{XorPage};
 ghost use Rattle.xor_mode_page.specs.declared.pages.PageFault.{PageFault};
-ghost use Rattle.xor_mode_page.specs.Pages.{Selects, IsListFault, HasLength, IsFine, list_bits, list_values, spelling, sense_header, changeable};
+ghost use Rattle.xor_mode_page.specs.Pages.{Selects, IsListFault, list_fault, HasLength, IsFine, list_bits, list_values, spelling, sense_header, changeable};
 
 use crate::bits::{BITS, HEADER, VALUES, offence};
 use crate::codec::{encode_page, fields_of};
@@ -28,6 +28,8 @@ pub fn select(page: &mut XorPage, list: &[u8]) -> Result<(), PageFault>
     ensures fault { IfErr result (IsListFault list.now) }
     // When a fault is answered.
     ensures refused { (e : PageFault) → IsListFault list.now e → result ≡ Err e }
+    // The same of the one fault that a list has or hasn't.
+    ensures tested { MatchResult result (λ _. list_fault list.now ≡ None) (λ e. list_fault list.now ≡ Some e) }
 {
     // All of the list is judged before the page is touched: a list that is refused for its last byte leaves
     // the page as it was.

@@ -1,6 +1,7 @@
-use Rattle.std.proofs.Common.{◌<◌, ℕ, List, refl, sym, subst, arith}
-use Rattle.xor_mode_page.specs.Pages.{IsFine, fixed_bits, fixed_values, SpellsPage}
+use Rattle.std.proofs.Common.{rules, ◌≡◌, Some, ◌<◌, ℕ, List, refl, sym, subst, arith}
+use Rattle.xor_mode_page.specs.Pages.{list_fault, IsFine, fixed_bits, fixed_values, SpellsPage}
 use Rattle.xor_mode_page.proofs.ListLemmas.{page_is_fine, sets_page, leaves_page, never_list_fault, selects_one}
+use Rattle.xor_mode_page.proofs.ListFaults.{fault-is, fine-is}
 use Rattle.xor_mode_page.proofs.parameters.select.Goals as goal
 
 pub fields_of-requires : goal.fields_of-requires
@@ -27,3 +28,14 @@ returns-in-Some-clause-only c listed s =
     let made = sets_page c.args.list.now c.args.page.now c.fields_of.result found.0 (λ i. omega (arith, c.type_inv.list i)) c.in_ok-check.ensures.fine
     (subst (λ (page : List ℕ). SpellsPage page c.fields_of.result) found.1 c.fields_of.ensures) in
     (refl, selects_one c.args.list.now c.args.page.now c.fields_of.result listed made s)
+
+pub returns-in_err-check-clause-tested : goal.returns-in_err-check-clause-tested
+returns-in_err-check-clause-tested c =
+    let told : list_fault c.args.list.now ≡ Some c.in_err-check.field-0.0 = fault-is c.args.list.now c.in_err-check.field-0.0 c.in_err-check.ensures.fault in
+    search (rules, c.from_residual.ensures, told)
+
+pub returns-in-Some-clause-tested : goal.returns-in-Some-clause-tested
+returns-in-Some-clause-tested c = fine-is c.args.list.now c.in_ok-check.ensures.length c.in_ok-check.ensures.fine
+
+pub returns-in_default-clause-tested : goal.returns-in_default-clause-tested
+returns-in_default-clause-tested c = fine-is c.args.list.now c.in_ok-check.ensures.length c.in_ok-check.ensures.fine
