@@ -7,7 +7,12 @@ ghost use Rattle.sector_media.specs.Media.{AreRows};
 use outer_io::Failed;
 
 /// Rows of one block each, as a disk has them. No call changes how many there are or how long a block is,
-/// whether it fails or not. What a failed write or renewal leaves isn't said.
+/// whether it fails or not.
+///
+/// After a failed read, write or renewal any byte of any row may be another one, also of rows that the call
+/// doesn't name: a disk that fails in the middle of a command tells nothing of what it did. A medium that told
+/// its bytes goes on telling them as they then are. So whoever meets a failure takes the medium for lost,
+/// reads nothing of it, and uses it again only after a renewal that didn't fail.
 pub trait Medium {
     /// Whether no call of any value ever fails.
     const NEVER_FAILS: bool;
@@ -42,6 +47,7 @@ pub trait Medium {
         ensures same_block { block self.new ≡ block self.old }
         ensures same_rows { row_count self.new ≡ row_count self.old }
         ensures tells_on { TellsOn (contents self.old) (contents self.new) }
+        ensures tells_no_more { TellsOn (contents self.new) (contents self.old) }
         ensures never_falls { faults self.old ≤ faults self.new }
         ensures failed { OnErr result (HasRisen (faults self.old) (faults self.new)) }
         ensures never_fails { IsTrue NEVER_FAILS → IsOk result };
@@ -55,6 +61,7 @@ pub trait Medium {
         ensures same_block { block self.new ≡ block self.old }
         ensures same_rows { row_count self.new ≡ row_count self.old }
         ensures tells_on { TellsOn (contents self.old) (contents self.new) }
+        ensures tells_no_more { TellsOn (contents self.new) (contents self.old) }
         ensures never_falls { faults self.old ≤ faults self.new }
         ensures failed { OnErr result (HasRisen (faults self.old) (faults self.new)) }
         ensures never_fails { IsTrue NEVER_FAILS → IsOk result };
@@ -66,6 +73,7 @@ pub trait Medium {
         ensures same_block { block self.new ≡ block self.old }
         ensures same_rows { row_count self.new ≡ row_count self.old }
         ensures tells_on { TellsOn (contents self.old) (contents self.new) }
+        ensures tells_no_more { TellsOn (contents self.new) (contents self.old) }
         ensures never_falls { faults self.old ≤ faults self.new }
         ensures failed { OnErr result (HasRisen (faults self.old) (faults self.new)) }
         ensures never_fails { IsTrue NEVER_FAILS → IsOk result };
