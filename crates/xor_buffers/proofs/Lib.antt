@@ -1,7 +1,11 @@
 pub mod OwnerSteps
 pub mod OwnerLaws
 pub mod HeldLists
-pub mod SlotLaws
+pub mod SlotOrders
+pub mod GatheredSlots
+pub mod WrittenSlots
+pub mod BlockRuns
+pub mod GrownSlots
 pub mod TableSteps
 pub mod RunLaws
 pub mod TakenRows

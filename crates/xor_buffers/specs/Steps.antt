@@ -1,5 +1,5 @@
 -- What a list of held blocks is while a call goes through it.
-use Rattle.std.specs.Prelude.{◌==◌, ◌&&◌, ◌-◌, ◌*◌, ℕ, Bool, List, Option, Some, None, if◌then◌else◌}
+use Rattle.std.specs.Prelude.{◌==◌, ◌&&◌, ◌-◌, ◌*◌, ℕ, Bool, List, [], ◌∷◌, Option, Some, None, if◌then◌else◌}
 use Rattle.blocks_core.specs.Lists.{slice}
 use Rattle.xor_buffers.specs.declared.held.HeldBlocks.{HeldBlocks}
 use Rattle.xor_buffers.specs.Held.{holds_rows, take_rows, with_owner}
@@ -15,3 +15,8 @@ put_in done c xs = if done then xs else with_owner c xs
 -- the rows in held blocks, if a command holds them there
 abbrev pub rows_in : ℕ → ℕ → ℕ → ℕ → HeldBlocks → Option (List ℕ)
 rows_in block c row len h = if (h.owner == c) && holds_rows block row len h then Some (slice h.bytes ((row - h.row) * block) len) else None
+
+-- the lowest of rising numbers
+abbrev pub lowest_of : List ℕ → Option ℕ
+lowest_of [] = None
+lowest_of (x ∷ xs) = Some x

@@ -6,7 +6,7 @@ ghost use Rattle.xor_buffers.specs.Held.{take_rows, rows_held, owners_of};
 ghost use Rattle.xor_buffers.specs.Steps.{left_of, rows_in};
 
 use crate::held::{HeldBlocks, Rows, place_in, push_rest};
-use crate::owners::with_owner;
+use crate::owners::OwnerSet;
 use blocks_core::{Bytes, Memory, Owners};
 use std::alloc::Global;
 use std::marker::Model;
@@ -121,7 +121,8 @@ impl HeldList {
     /// rows stays, as one or two rests. After want of memory nothing is held any more.
     pub fn take(&mut self, alloc: Global, rows: Rows) -> Result<(), Memory>
         requires { 1 ≤ rows.block }
-        ensures { OnOk result (self.new ≡ take_rows rows.block rows.row rows.len self.old) }
+        ensures ok { OnOk result (self.new ≡ take_rows rows.block rows.row rows.len self.old) }
+        ensures err { OnErr result (self.new ≡ []) }
     {
         let kept = std::mem::replace(&mut self.kept, Vec::new(alloc));
         self.kept = without_rows(alloc, kept, rows)?;
@@ -159,12 +160,12 @@ impl HeldList {
     pub fn owners(&self, alloc: Global) -> Result<Owners, Memory>
         ensures { IfOk result (λ owners. owners ≡ owners_of self.now) }
     {
-        let mut owners = Owners::new(alloc);
+        let mut owners = OwnerSet::new(alloc);
         let len = self.count();
         for done in 0..len {
             let owner = self.owner_at(len - 1 - done);
-            owners = with_owner(alloc, &owners, owner)?;
+            owners.add(alloc, owner)?;
         }
-        Ok(owners)
+        owners.rising(alloc)
     }
 }

@@ -6,7 +6,7 @@ ghost use Rattle.xor_buffers.specs.Held.{held_blocks, owners_of};
 
 use super::Held;
 use super::table::{Run, cut};
-use crate::owners::with_owner;
+use crate::owners::OwnerSet;
 use blocks_core::{Memory, Owners};
 use std::alloc::Global;
 
@@ -41,13 +41,13 @@ impl Held {
     pub fn owners(&self, alloc: Global) -> Result<Owners, Memory>
         ensures { IfOk result (λ owners. owners ≡ owners_of self.now.list) }
     {
-        let mut owners = Owners::new(alloc);
+        let mut owners = OwnerSet::new(alloc);
         let len = self.len();
         for back in 0..len {
             let owner = self.run_at(len - 1 - back).owner;
-            owners = with_owner(alloc, &owners, owner)?;
+            owners.add(alloc, owner)?;
         }
-        Ok(owners)
+        owners.rising(alloc)
     }
 
     /// How many pieces are held.

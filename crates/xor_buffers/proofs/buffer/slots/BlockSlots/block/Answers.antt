@@ -1,5 +1,5 @@
 use Rattle.std.proofs.Common.{length}
-use Rattle.xor_buffers.proofs.SlotLaws.{length-gathered}
+use Rattle.xor_buffers.proofs.GatheredSlots.{length-gathered}
 use Rattle.xor_buffers.proofs.buffer.slots.BlockSlots.block.Goals as goal
 
 pub returns-clause-whole : goal.returns-clause-whole

@@ -4,7 +4,9 @@ use Rattle.std.specs.Result.{OnErr}
 use Rattle.std.proofs.Common.{Result, Ok, Err}
 use Rattle.std.proofs.lemmas.List.{length-append}
 use Rattle.xor_buffers.specs.Slots.{numbers_from, times_in}
-use Rattle.xor_buffers.proofs.SlotLaws.{length-gathered, gathered-kept, gathered-grown, length-numbers_from, order-longer}
+use Rattle.xor_buffers.proofs.SlotOrders.{length-numbers_from, order-longer}
+use Rattle.xor_buffers.proofs.GatheredSlots.{length-gathered}
+use Rattle.xor_buffers.proofs.GrownSlots.{gathered-kept, gathered-grown}
 use Rattle.xor_buffers.proofs.buffer.slots.BlockSlots.grow.Goals as goal
 
 on_err : {T E : Type 0} (r : Result T E) (P : Type 0) → P → OnErr r P

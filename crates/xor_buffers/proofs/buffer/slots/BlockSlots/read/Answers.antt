@@ -1,7 +1,7 @@
 use Rattle.std.proofs.Common.{◌≡◌, ◌*◌, ◌≤◌, ◌+◌, ◌-◌, ◌++◌, ℕ, List, take, drop, sym, ap, ◌∙◌, length, arith}
 use Rattle.blocks_core.specs.Lists.{block_at}
 use Rattle.blocks_core.proofs.BlockLists.{length-block_at, block_end}
-use Rattle.xor_buffers.proofs.SlotLaws.{read-more}
+use Rattle.xor_buffers.proofs.BlockRuns.{read-more}
 use Rattle.xor_buffers.proofs.buffer.slots.BlockSlots.read.Goals as goal
 
 pub loop-done-preserved : goal.loop-done-preserved

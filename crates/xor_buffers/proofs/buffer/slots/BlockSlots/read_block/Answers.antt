@@ -1,7 +1,7 @@
 use Rattle.std.proofs.Common.{◌≡◌, ◌*◌, ◌≤◌, ◌+◌, ℕ, List, sym, ap, ◌∙◌, length, get_or, arith}
 use Rattle.blocks_core.specs.Lists.{slice, block_at}
 use Rattle.xor_buffers.specs.Slots.{Slotted, gathered}
-use Rattle.xor_buffers.proofs.SlotLaws.{slot_inside, block-gathered}
+use Rattle.xor_buffers.proofs.GatheredSlots.{slot_inside, block-gathered}
 use Rattle.xor_buffers.proofs.buffer.slots.BlockSlots.read_block.Goals as goal
 
 pub copy_out-requires : goal.copy_out-requires

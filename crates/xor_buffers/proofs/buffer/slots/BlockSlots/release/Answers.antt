@@ -1,7 +1,8 @@
 use Rattle.std.proofs.Common.{◌≡◌, ◌*◌, ℕ, List, sym, ap, ◌∙◌, subst, length, arith}
 use Rattle.std.proofs.lemmas.List.{with_items_is}
 use Rattle.xor_buffers.specs.Slots.{Slotted, IsOrder, gathered, released, turned}
-use Rattle.xor_buffers.proofs.SlotLaws.{gathered-released, order-turned, length-turned}
+use Rattle.xor_buffers.proofs.SlotOrders.{order-turned, length-turned}
+use Rattle.xor_buffers.proofs.GatheredSlots.{gathered-released}
 use Rattle.std.specs.Vec.{with_items}
 use Rattle.xor_buffers.proofs.buffer.slots.BlockSlots.release.Goals as goal
 

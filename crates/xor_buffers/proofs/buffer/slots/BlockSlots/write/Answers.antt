@@ -2,7 +2,7 @@ use Rattle.std.proofs.Common.{◌≡◌, ◌*◌, ◌≤◌, ◌+◌, ◌-◌, �
 use Rattle.blocks_core.specs.Lists.{put}
 use Rattle.blocks_core.proofs.BlockLists.{block_end}
 use Rattle.xor_buffers.specs.Slots.{Slotted}
-use Rattle.xor_buffers.proofs.SlotLaws.{put-more}
+use Rattle.xor_buffers.proofs.BlockRuns.{put-more}
 use Rattle.std.proofs.Math.Nat.{add-mul}
 use Rattle.std.proofs.lemmas.Nat.{mul-le}
 use Rattle.xor_buffers.proofs.buffer.slots.BlockSlots.write.Goals as goal

@@ -3,7 +3,8 @@ use Rattle.blocks_core.specs.Lists.{put}
 use Rattle.blocks_core.proofs.BlockLists.{length-put}
 use Rattle.std.proofs.lemmas.List.{with_items_is}
 use Rattle.xor_buffers.specs.Slots.{Slotted, gathered}
-use Rattle.xor_buffers.proofs.SlotLaws.{slot_inside, gathered-put}
+use Rattle.xor_buffers.proofs.GatheredSlots.{slot_inside}
+use Rattle.xor_buffers.proofs.WrittenSlots.{gathered-put}
 use Rattle.std.specs.Vec.{with_items}
 use Rattle.xor_buffers.proofs.buffer.slots.BlockSlots.write_block.Goals as goal
 
