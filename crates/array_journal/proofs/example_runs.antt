@@ -1,4 +1,5 @@
-pub mod TriedRuns
+pub mod TriedWrites
+pub mod TriedLosses
 pub mod TriedBars
 pub mod WrongBars
 pub mod ReadbackRuns

@@ -1,5 +1,10 @@
 pub mod HeldOwners
-pub mod HeldLaws
+pub mod TakersApart
+pub mod HeldOfOpen
+pub mod NewlyHeld
+pub mod Holding
+pub mod NoRowTwice
+pub mod HeldUntil
 pub mod TakenWhole
 pub mod HeldDeltas
 pub mod HeldGathers

@@ -1,7 +1,14 @@
 pub mod LifeLaws
+pub mod OpenedSwaps
+pub mod DoneRebuilds
+pub mod RebuiltLives
+pub mod MissingCounts
 pub mod AbsentLaws
 pub mod MendedLaws
 pub mod AbsentSteps
+pub mod FinishedRebuilds
 pub mod ThereLaws
+pub mod MissingStays
 pub mod OpenedUnits
 pub mod WaitingSlots
+pub mod DiskCounts

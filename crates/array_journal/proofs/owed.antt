@@ -1,10 +1,17 @@
+pub mod ActBars
 pub mod EndedCommands
 pub mod DeltaLaws
 pub mod OwedLists
+pub mod FoldedCommands
 pub mod OwedItems
+pub mod LonePuts
+pub mod OwedOnce
 pub mod OwedSteps
 pub mod EndedUpdates
 pub mod RenewedParity
 pub mod OwedLaws
+pub mod StillSums
+pub mod ParitySums
+pub mod DataSums
 pub mod SumLaw
 pub mod KeptRuns

@@ -5,9 +5,13 @@ pub mod LaneLaws
 pub mod BeginningLaws
 pub mod RunLaws
 pub mod MergeOrder
+pub mod OneJournal
 pub mod OwnLaws
-pub mod PartsLaws
+pub mod PartsOfNames
+pub mod PartsOfMay
+pub mod MayOfParts
 pub mod BookLanes
+pub mod WiderNames
 pub mod WiderPasts
 pub mod JoinedParts
 pub mod CallLaws

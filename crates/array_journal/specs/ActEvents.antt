@@ -6,7 +6,7 @@ use Rattle.array_journal.specs.declared.act.Act.TheVariants.{Fetches, Puts, Diff
 use Rattle.array_journal.specs.declared.act_view.ActView.{ActView}
 use Rattle.array_journal.specs.declared.at.At.{At}
 use Rattle.array_journal.specs.declared.event.Event.{Event}
-use Rattle.array_journal.specs.declared.event.Event.TheVariants.{Fetch, Put, Diff, Take, Fold, Hold}
+use Rattle.array_journal.specs.declared.event.Event.TheVariants.{Fetch, Put, Diff, Take, Fold, Hold, Shut}
 
 -- an act: which, of which command, opened by which entry, sent how, where, and its bytes
 pub record ActSaid : Type 0 where
@@ -33,3 +33,14 @@ act_in _ = None
 -- what a program holds of an act
 abbrev pub said : ActView → ActSaid
 said view = act_of view.act view.command view.opened view.cdb.now view.row view.bytes.now
+
+-- the command that acts or is shut by an event
+abbrev pub actor : Event → Option ℕ
+actor (Fetch command opened cdb row bytes) = Some command
+actor (Put command opened cdb row bytes names) = Some command
+actor (Diff command opened cdb row bytes sent dropped back) = Some command
+actor (Take command opened cdb row bytes) = Some command
+actor (Fold command opened cdb row bytes names) = Some command
+actor (Hold command opened cdb row bytes kept names back) = Some command
+actor (Shut command opened acted lost) = Some command
+actor _ = None

@@ -26,6 +26,11 @@ abbrev pub some_at : ℕ → (Event → Bool) → List Entry → Bool
 some_at lock test [] = false
 some_at lock test (e ∷ past) = ((e.lock == lock) && test e.event) || some_at lock test past
 
+-- the name of the newest entry of a lock that says so
+abbrev pub newest_at : ℕ → (Event → Bool) → List Entry → Option At
+newest_at lock test [] = None
+newest_at lock test (e ∷ past) = if (e.lock == lock) && test e.event then Some (name_of e) else newest_at lock test past
+
 -- how many entries of a lock say so
 abbrev pub count_at : ℕ → (Event → Bool) → List Entry → ℕ
 count_at lock test [] = 0

@@ -14,6 +14,7 @@ pub mod Run
 pub mod Serving
 pub mod Calm
 pub mod Merge
+pub mod OneJournal
 pub mod Parts
 pub mod OwnEntries
 pub mod ExampleJournals
@@ -28,3 +29,5 @@ pub mod Known
 pub mod Calls
 pub mod Served
 pub mod Guarded
+pub mod Owners
+pub mod EntryLists

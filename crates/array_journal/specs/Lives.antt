@@ -1,5 +1,5 @@
 -- Disks that are lost and replaced. A disk lives from one fresh entry of its slot to the loss after it.
-use Rattle.std.specs.Prelude.{◌==◌, ◌&&◌, ℕ, ◌+◌, Bool, true, false, List, [], ◌∷◌, Option, Some, None, is_some, if◌then◌else◌}
+use Rattle.std.specs.Prelude.{◌==◌, ◌&&◌, ℕ, suc, ◌+◌, Bool, true, false, List, [], ◌∷◌, Option, Some, None, is_some, if◌then◌else◌}
 use Rattle.array_journal.specs.declared.at.At.{At}
 use Rattle.array_journal.specs.declared.entry.Entry.{Entry}
 use Rattle.array_journal.specs.declared.event.Event.{Event}
@@ -40,6 +40,10 @@ is_gone i past = is_some (loss_of i past)
 -- the life of target i's disk, from 0: how many fresh disks came
 abbrev pub life_of : ℕ → List Entry → ℕ
 life_of i past = count_at (i + 1) is_fresh past
+
+-- the life of a disk after an event at its target
+abbrev pub life_after : Event → ℕ → ℕ
+life_after event life = if is_fresh event then suc life else life
 
 -- how many times the book swapped the disk of slot i
 abbrev pub swap_count : ℕ → List Entry → ℕ

@@ -1,6 +1,6 @@
 ghost use Rattle.std.specs.Prelude.{◌≡◌, option_map};
 ghost use Rattle.array_journal.specs.Acts.{is_act};
-ghost use Rattle.array_journal.specs.ActEvents.{act_in, said};
+ghost use Rattle.array_journal.specs.ActEvents.{act_in, said, actor};
 
 use crate::act::Act;
 use crate::at::At;
@@ -81,6 +81,16 @@ impl Event {
             row: *row,
             bytes: bytes.as_slice(),
         })
+    }
+
+    /// The command that acts or is shut by the event, at a target.
+    pub fn actor(&self) -> Option<u32>
+        ensures { result ≡ actor self.now }
+    {
+        match self {
+            Event::Shut { command, .. } => Some(*command),
+            _ => Some(self.act()?.command),
+        }
     }
 
     /// Whether the event is this act of a command.

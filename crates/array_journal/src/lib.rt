@@ -7,6 +7,7 @@ mod act_view;
 mod acts;
 mod at;
 mod decision;
+mod disk_steps;
 mod entry;
 mod event;
 pub mod examples;

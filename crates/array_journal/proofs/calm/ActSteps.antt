@@ -20,6 +20,7 @@ use Rattle.array_journal.specs.May.{passes, Names, MayAct, MayAt, MayTarget, is_
 use Rattle.array_journal.specs.Run.{ComesLater}
 use Rattle.array_journal.specs.Calm.{IsCalmEvent}
 use Rattle.array_journal.proofs.calm.CalmEntries.{AllCalm, calm-more, is_gone-calm, not_shut-calm, freshes-calm}
+use Rattle.array_journal.proofs.runs.Standing.{passes-said}
 
 -- one more calm entry
 pub calm-next : (t u c d : ℕ) (e : Entry) (past : List Entry) → e.stamp ≤ u → t ≤ u → c ≤ d → IsCalmEvent d e.event → AllCalm t c past → AllCalm u d (e ∷ past)
@@ -59,16 +60,16 @@ may-target s past stamp i event h m = subst (λ (l : ℕ). MayAt s past stamp l 
     suc-lock : (i : ℕ) → suc i ≡ i + 1
     suc-lock i = omega arith
 
-pub passes-at : (test : Event → Bool) (name : At) (past : List Entry) (event : Event) → entry_at name past ≡ Some event → test event ≡ true →
-    passes test (entry_at name past) ≡ true
-passes-at test name past event e h = ap (passes test) e ∙ h
-
 -- which acts a task has is a matter of its kind
 pub has-by_kind : (s : Setting) (act : Act) (task : Task) (kind : Kind) (mode : Mode) (i : ℕ) → task.kind ≡ kind → s.mode ≡ mode →
     has_act s act task i ≡ (nat_lt i s.geometry.targets && acts_at mode act kind task i)
 has-by_kind s act task kind mode i e m =
     ap (λ (k : Kind). nat_lt i s.geometry.targets && acts_at s.mode act k task i) e
     ∙ ap (λ (x : Mode). nat_lt i s.geometry.targets && acts_at x act kind task i) m
+
+-- an act that a task has is one of its kind
+pub acts-there : (s : Setting) (act : Act) (task : Task) (i : ℕ) → has_act s act task i ≡ true → acts_at s.mode act task.kind task i ≡ true
+acts-there s act task i h = (and_parts (nat_lt i s.geometry.targets) (acts_at s.mode act task.kind task i) h).1
 
 -- an act that the kind has at one target
 pub has-there : (s : Setting) (act : Act) (task : Task) (kind : Kind) (mode : Mode) (i : ℕ) → task.kind ≡ kind → s.mode ≡ mode →
@@ -98,7 +99,7 @@ pub named-here : (past : List Entry) (c : ℕ) (act : Act) (i : ℕ) (name : At)
     entry_at name past ≡ Some event → is_act act c event ≡ true → is_named past c act i (name ∷ names) ≡ true
 named-here past c act i name names event h e k =
     or_left ((name.lock == i + 1) && passes (is_act act c) (entry_at name past)) (is_named past c act i names)
-    (and_from (name.lock == i + 1) (passes (is_act act c) (entry_at name past)) (eq-eqb name.lock (i + 1) h) (passes-at (is_act act c) name past event e k))
+    (and_from (name.lock == i + 1) (passes (is_act act c) (entry_at name past)) (eq-eqb name.lock (i + 1) h) (passes-said (is_act act c) name past event e k))
 
 pub named-later : (past : List Entry) (c : ℕ) (act : Act) (i : ℕ) (name : At) (names : List At) → is_named past c act i names ≡ true →
     is_named past c act i (name ∷ names) ≡ true
@@ -160,7 +161,7 @@ pub names-own : (s : Setting) (past : List Entry) (stamp c : ℕ) (task : Task) 
     name.stamp < stamp → entry_at name past ≡ Some event → is_own_act s c task (suc i) event ≡ true →
     Names past stamp name (is_own_act s c task name.lock)
 names-own s past stamp c task i name event h before e own = (
-  passes-at (is_own_act s c task name.lock) name past event e
+  passes-said (is_own_act s c task name.lock) name past event e
       (ap (λ (l : ℕ). is_own_act s c task l event) (lock-suc name.lock i h) ∙ own),
   before,
 )

@@ -25,7 +25,8 @@ use Rattle.array_journal.specs.Laws.{releases}
 use Rattle.array_journal.specs.HeldExactly.{AreHeldThere, DeltaHeldExactlyLaw, GatheredHeldExactlyLaw}
 use Rattle.array_journal.proofs.runs.Steps.{held-here, held-else}
 use Rattle.array_journal.proofs.runs.Standing.{IsNameOf, not-later, may-here, entry_at-cases, some_at-here, some_at-older}
-use Rattle.array_journal.proofs.held.HeldLaws.{holding, taken-without, kept-after}
+use Rattle.array_journal.proofs.held.Holding.{holding, taken-without}
+use Rattle.array_journal.proofs.held.HeldUntil.{kept-after}
 
 -- an event that releases nothing of a command leaves what it holds
 exactly-after : (s : Setting) (i : ℕ) (h : HeldBlocks) (past : List Entry) (stamp : ℕ) (m : List ℕ) (event : Event) → 1 ≤ s.geometry.block → Grows s past →

@@ -13,7 +13,8 @@ use Rattle.xor_buffers.proofs.HeldLists.{among-found}
 use Rattle.array_journal.specs.Media.{media, held}
 use Rattle.array_journal.specs.Deltas.{delta_at, delta_in, delta_of}
 use Rattle.array_journal.specs.Served.{DeltaFoundLaw, GatheredFoundLaw}
-use Rattle.array_journal.proofs.held.HeldLaws.{holding, delta-length}
+use Rattle.array_journal.proofs.held.NewlyHeld.{delta-length}
+use Rattle.array_journal.proofs.held.Holding.{holding}
 use Rattle.array_journal.proofs.held.ExactlyHeld.{delta-exactly, gathered-exactly}
 
 -- a delta is as long as what was written

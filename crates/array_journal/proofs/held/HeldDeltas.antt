@@ -31,7 +31,8 @@ use Rattle.array_journal.proofs.runs.Steps.{held-here, held-else}
 use Rattle.array_journal.proofs.runs.Standing.{may-here, some_at-cases, some_at-newest, IsNameOf, entry_at-cases, passes-said, some-named}
 use Rattle.array_journal.proofs.runs.CommandLaws.{named-task, task_of-more}
 use Rattle.array_journal.proofs.held.HeldOwners.{HasAct, acted-has, never-both}
-use Rattle.array_journal.proofs.held.HeldLaws.{holding, taken-without, new-distinct, taken-source}
+use Rattle.array_journal.proofs.held.NewlyHeld.{new-distinct, taken-source}
+use Rattle.array_journal.proofs.held.Holding.{holding, taken-without}
 use Rattle.array_journal.proofs.held.TakenWhole.{Found, taken-whole}
 use Rattle.array_journal.proofs.owed.DeltaLaws.{folds-update, diff-task, IsDiffed, diff_delta, delta_made, delta_made-newest, delta_made-else, delta_made-more, delta_at-made}
 

@@ -27,7 +27,7 @@ use Rattle.array_journal.proofs.runs.Steps.{held-here, held-else, entry_at-here}
 use Rattle.array_journal.proofs.runs.Standing.{may-here, some_at-newest, some_at-more, IsNameOf, entry_at-cases, entry_at-more, passes-said, some-named}
 use Rattle.array_journal.proofs.runs.CommandLaws.{task_of-more}
 use Rattle.array_journal.proofs.held.HeldOwners.{act-asks, HasAct, act-task, acted-has}
-use Rattle.array_journal.proofs.held.HeldLaws.{holding, taken-without}
+use Rattle.array_journal.proofs.held.Holding.{holding, taken-without}
 use Rattle.array_journal.proofs.held.TakenWhole.{Found, taken-whole}
 use Rattle.array_journal.proofs.owed.DeltaLaws.{differs-update}
 

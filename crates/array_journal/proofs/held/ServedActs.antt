@@ -28,15 +28,19 @@ use Rattle.array_journal.specs.Run.{Grows, IsSetting}
 use Rattle.array_journal.specs.Served.{IsDue, fills_buffer, IsApartFrom, NoOtherAnswerLaw}
 use Rattle.array_journal.proofs.runs.Standing.{IsNameOf, named-below, may-here, some_at-cases, passes-said, entry_at-cases, entry_at-more, count_before-still, count_before-le, count_before-of_all}
 use Rattle.array_journal.proofs.runs.CommandLaws.{named-task}
-use Rattle.array_journal.proofs.lives.AbsentLaws.{task-sound}
+use Rattle.array_journal.proofs.lives.DoneRebuilds.{task-sound}
 use Rattle.array_journal.proofs.sums.CoveredRows.{blocks_in}
 use Rattle.array_journal.proofs.held.HeldOwners.{acted-has, never-both, owner-source}
-use Rattle.array_journal.proofs.held.HeldLaws.{IsHeld, holding, takes-from, diff-takes, hold-takes, open-takers-apart, apart-rows, holder-open}
-use Rattle.array_journal.proofs.reads.KnownBlocks.{acts-there}
+use Rattle.array_journal.proofs.held.TakersApart.{open-takers-apart}
+use Rattle.array_journal.proofs.held.HeldOfOpen.{IsHeld, holder-open}
+use Rattle.array_journal.proofs.held.NewlyHeld.{takes-from, diff-takes, hold-takes}
+use Rattle.array_journal.proofs.held.Holding.{holding}
+use Rattle.array_journal.proofs.held.NoRowTwice.{apart-rows}
 use Rattle.array_journal.proofs.held.RoomLaws.{IsCounted, takes-holds, all-fits, held-counted}
 use Rattle.array_journal.proofs.lives.WaitingSlots.{open-before, one-waits}
-use Rattle.array_journal.proofs.owed.EndedCommands.{target-of_act}
+use Rattle.array_journal.proofs.owed.ActBars.{target-of_act}
 use Rattle.array_journal.proofs.held.TaskPlaces.{rows-fit}
+use Rattle.array_journal.proofs.calm.ActSteps.{acts-there}
 
 -- each entry of a lock is before a stamp that is above all of them
 all-before : (k stamp : ℕ) (test : Event → Bool) (past : List Entry) → stamps_below k stamp past ≡ true → count_before k test stamp past ≡ count_at k test past

@@ -19,7 +19,8 @@ use Rattle.array_journal.specs.Media.{held}
 use Rattle.array_journal.specs.May.{MayTarget}
 use Rattle.array_journal.specs.Run.{Grows}
 use Rattle.array_journal.proofs.runs.CommandLaws.{named-task}
-use Rattle.array_journal.proofs.held.HeldLaws.{IsHeld, AllHeld, holding}
+use Rattle.array_journal.proofs.held.HeldOfOpen.{IsHeld, AllHeld}
+use Rattle.array_journal.proofs.held.Holding.{holding}
 
 -- held blocks are just these rows
 record IsWhole (row len : ℕ) (h : HeldBlocks) : Type 0 where

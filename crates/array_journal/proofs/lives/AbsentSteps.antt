@@ -15,9 +15,10 @@ use Rattle.array_journal.specs.Lives.{rebuilds, closes_done, has_rebuilt, puts_r
 use Rattle.array_journal.specs.Run.{Grows}
 use Rattle.array_journal.proofs.runs.Standing.{may-here}
 use Rattle.array_journal.proofs.runs.CommandLaws.{opened-once, ended-opened, ends-open}
-use Rattle.array_journal.proofs.owed.EndedCommands.{act-not_ended, some_at-weaker}
+use Rattle.array_journal.proofs.owed.ActBars.{some_at-weaker}
+use Rattle.array_journal.proofs.owed.EndedCommands.{act-not_ended}
 use Rattle.array_journal.proofs.windows.WindowLaws.{older-task}
-use Rattle.array_journal.proofs.lives.AbsentLaws.{IsRebuild, rebuilds-some, puts-rebuilt, done-ends}
+use Rattle.array_journal.proofs.lives.DoneRebuilds.{IsRebuild, rebuilds-some, puts-rebuilt, done-ends}
 
 -- the event closes as done a rebuild of the unit of target i in a stripe
 abbrev pub closes_rebuild : List Entry → ℕ → ℕ → Event → Bool

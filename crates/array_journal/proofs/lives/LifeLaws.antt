@@ -12,7 +12,7 @@ use Rattle.array_journal.specs.Lives.{is_fresh, is_note_of, is_swap_of, is_loss,
 use Rattle.array_journal.specs.May.{MayBook, MayTarget, passes, is_loss_in, MayNote, MaySwap, MayFresh}
 use Rattle.array_journal.specs.Run.{Grows}
 use Rattle.array_journal.specs.Laws.{note_count, unfitted_count, is_loss_from}
-use Rattle.array_journal.proofs.runs.Standing.{may-book, may-here, some_at-else, some_at-cases, some_at-more, some_at-newest, count_at-here, count_at-else, count_at-more, some-named, passes-said, count_before-of_all}
+use Rattle.array_journal.proofs.runs.Standing.{may-book, may-here, some_at-else, some_at-cases, some_at-more, some_at-newest, count_at-here, count_at-else, count_at-more, some-named, passes-said, count_before-of_all, passes-weaker}
 
 -- the state of a slot after one more entry
 pub loss_of-here : (i : ℕ) (e : Entry) (past : List Entry) → e.lock ≡ i + 1 → loss_of i (e ∷ past) ≡ loss_after (name_of e) e.event (loss_of i past)
@@ -181,11 +181,6 @@ loss-life s i w (e ∷ past) g h = elim (cases_eq e.lock (i + 1)) [
         kept (inl less) = let q : life_of i past ≤ life_of i (e ∷ past) = life-more i e past in inl (omega arith)
         kept (inr both) = let q : life_of i past ≤ life_of i (e ∷ past) = life-more i e past in let b : w ≤ life_of i past = both.0 in
             inr (omega arith, ap (λ (o : Option At). is_some o) (loss_of-here i e past here ∙ a (name_of e) (loss_of i past)) ∙ both.1)
-
-pub passes-weaker : (test weaker : Event → Bool) (found : Option Event) → ((event : Event) → test event ≡ true → weaker event ≡ true) →
-    passes test found ≡ true → passes weaker found ≡ true
-passes-weaker test weaker None f h = h
-passes-weaker test weaker (Some event) f h = f event h
 
 loss-in_from : (life w : ℕ) (event : Event) → w ≤ life → is_loss_in life event ≡ true → is_loss_from w event ≡ true
 loss-in_from life w (Gone its_life call commands) h k = let a : its_life ≡ life = eqb-true its_life life k in le-leb w its_life (omega arith)

@@ -30,7 +30,8 @@ use Rattle.array_journal.proofs.runs.CommandLaws.{one_task}
 use Rattle.array_journal.proofs.runs.Standing.{may-book}
 use Rattle.array_journal.proofs.windows.WindowLaws.{exclusive-alone}
 use Rattle.array_journal.proofs.lives.AbsentLaws.{absent-exactly, act-present}
-use Rattle.array_journal.proofs.lives.ThereLaws.{There, is_present, is_put, missing-stays}
+use Rattle.array_journal.proofs.lives.ThereLaws.{There, is_present, is_put}
+use Rattle.array_journal.proofs.lives.MissingStays.{missing-stays}
 
 -- an opening that is named could be made over the entries before it
 opening-may : (s : Setting) (opened : At) (c : ℕ) (task : Task) (past : List Entry) → Grows s past → opened.lock ≡ 0 → entry_at opened past ≡ Some (Open c task) →

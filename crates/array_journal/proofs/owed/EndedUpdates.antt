@@ -27,8 +27,9 @@ use Rattle.array_journal.proofs.runs.CommandLaws.{opened-open, open-opened, open
 use Rattle.array_journal.proofs.calm.ActSteps.{has-there}
 use Rattle.array_journal.proofs.lives.LifeLaws.{unfitted-gone, is_gone-else}
 use Rattle.array_journal.proofs.held.HeldOwners.{ActAt, acts, act-asks}
-use Rattle.array_journal.proofs.owed.EndedCommands.{named-made, named-each, target-of_act, shut-idle, some_at-weaker}
-use Rattle.array_journal.proofs.lives.AbsentLaws.{IsRebuild, absent-exactly, task-sound}
+use Rattle.array_journal.proofs.owed.ActBars.{named-made, named-each, target-of_act, shut-idle, some_at-weaker}
+use Rattle.array_journal.proofs.lives.DoneRebuilds.{IsRebuild, task-sound}
+use Rattle.array_journal.proofs.lives.AbsentLaws.{absent-exactly}
 use Rattle.array_journal.proofs.lives.AbsentSteps.{Returns, absent-returns}
 use Rattle.array_journal.proofs.sums.LayoutLaws.{parity_of-below}
 

@@ -25,10 +25,11 @@ use Rattle.array_journal.proofs.runs.CommandLaws.{one_task}
 use Rattle.array_journal.proofs.runs.Steps.{is_open-quiet}
 use Rattle.array_journal.proofs.owed.EndedCommands.{act-open}
 use Rattle.array_journal.proofs.windows.WindowLaws.{exclusive-alone}
-use Rattle.array_journal.proofs.lives.AbsentLaws.{task-sound}
+use Rattle.array_journal.proofs.lives.DoneRebuilds.{task-sound}
 use Rattle.array_journal.proofs.owed.DeltaLaws.{act-lock}
 use Rattle.array_journal.proofs.owed.OwedLists.{without_command, all-deltas, kept-others, none-left}
-use Rattle.array_journal.proofs.owed.OwedItems.{IsItem, items, task-covers}
+use Rattle.array_journal.proofs.owed.OwedItems.{IsItem, items}
+use Rattle.array_journal.proofs.owed.LonePuts.{task-covers}
 use Rattle.array_journal.proofs.owed.OwedSteps.{moves_delta, outstanding-still, outstanding-put, outstanding-diff, outstanding-diff_beside, outstanding-folded}
 use Rattle.array_journal.proofs.owed.EndedUpdates.{OwedBy, still_open, is_spoilt, is_unfolded, IsUnfolded, renews_now, owed_by-more}
 use Rattle.array_journal.proofs.owed.RenewedParity.{renewal-owes_nothing}

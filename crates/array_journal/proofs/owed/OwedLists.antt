@@ -4,7 +4,6 @@ use Rattle.std.specs.List.{AllByRecursion}
 use Rattle.std.proofs.Common.{refl, ap, sym, ◌∙◌, cond, arith, subst, inl, inr}
 use Rattle.std.proofs.lemmas.Bool.{eq-eqb, ne_eqb, eqb-true, cases_eq, cases_Bool, and_from, and_left, and_right, or_parts, or_cases, false≢true, cond-true, cond-false, cond_both}
 use Rattle.blocks_core.specs.Xor.{xor, xor_all}
-use Rattle.blocks_core.proofs.XorLaws.{xor-assoc, xor-comm}
 use Rattle.stripe_layout.specs.Layout.{parity_of}
 use Rattle.array_journal.specs.declared.entry.Entry.{Entry}
 use Rattle.array_journal.specs.declared.event.Event.{Event}
@@ -14,6 +13,7 @@ use Rattle.blocks_core.specs.Lists.{block_at}
 use Rattle.array_journal.specs.declared.act.Act.TheVariants.{Folds}
 use Rattle.array_journal.specs.Deltas.{Delta, covers, delta_of, has_acted, puts_row, with_delta, outstanding_in}
 use Rattle.array_journal.specs.Run.{delta_blocks}
+use Rattle.array_journal.proofs.sums.XorSums.{xor-front}
 
 -- some delta of a list is a command's
 abbrev pub has_command : ℕ → List Delta → Bool
@@ -35,9 +35,6 @@ without_command-none c (d ∷ ds) h =
     let parts : ((d.command == c) ≡ false) × (has_command c ds ≡ false) = or_parts (d.command == c) (has_command c ds) h in
     cond-true (not (d.command == c)) (d ∷ without_command c ds) (without_command c ds) (ap not parts.0)
     ∙ ap (λ (l : List Delta). d ∷ l) (without_command-none c ds parts.1)
-
-xor-front : (x y z : List ℕ) → xor x (xor y z) ≡ xor y (xor x z)
-xor-front x y z = sym (xor-assoc x y z) ∙ ap (λ w. xor w z) (xor-comm x y) ∙ xor-assoc y x z
 
 -- the sum of all is that of the others with the command's block
 pub sum_without : (b c : ℕ) (block : List ℕ) (ds : List Delta) → OwesOnce c block ds →

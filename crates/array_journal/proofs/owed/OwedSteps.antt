@@ -23,11 +23,14 @@ use Rattle.array_journal.specs.Run.{Grows, IsSetting, delta_blocks}
 use Rattle.array_journal.proofs.runs.Standing.{may-here}
 use Rattle.array_journal.proofs.runs.CommandLaws.{named-task, one_task}
 use Rattle.array_journal.proofs.owed.EndedCommands.{act-open}
-use Rattle.array_journal.proofs.lives.AbsentLaws.{task-sound}
+use Rattle.array_journal.proofs.lives.DoneRebuilds.{task-sound}
 use Rattle.array_journal.proofs.owed.DeltaLaws.{act-lock, folds-update, delta_made}
 use Rattle.array_journal.proofs.held.HeldDeltas.{fold-delta}
 use Rattle.array_journal.proofs.owed.OwedLists.{without_command, without_command-none, sum_without, lacks-command, outstanding_in-agrees, outstanding_in-fold, outstanding_in-here, outstanding_in-still, outstanding_in-put}
-use Rattle.array_journal.proofs.owed.OwedItems.{HasFolded, has-folded, diff-unfolded, IsItem, items, task-covers, update_block, owed-once}
+use Rattle.array_journal.proofs.owed.FoldedCommands.{HasFolded, has-folded, diff-unfolded}
+use Rattle.array_journal.proofs.owed.OwedItems.{IsItem, items}
+use Rattle.array_journal.proofs.owed.LonePuts.{task-covers}
+use Rattle.array_journal.proofs.owed.OwedOnce.{update_block, owed-once}
 
 -- the event makes a delta, or brings one to parity
 abbrev pub moves_delta : Event → Bool

@@ -27,11 +27,12 @@ use Rattle.array_journal.proofs.runs.CommandLaws.{named-task, ends-open, one_tas
 use Rattle.array_journal.proofs.calm.ActSteps.{has-there}
 use Rattle.array_journal.proofs.owed.EndedCommands.{act-open}
 use Rattle.array_journal.proofs.windows.WindowLaws.{older-open, older-task, exclusive-alone}
-use Rattle.array_journal.proofs.lives.AbsentLaws.{task-sound, done-ends, done-put}
+use Rattle.array_journal.proofs.lives.DoneRebuilds.{task-sound, done-ends, done-put}
 use Rattle.array_journal.proofs.sums.LayoutLaws.{parity_of-below}
 use Rattle.array_journal.proofs.owed.DeltaLaws.{covers-from, differs-update}
 use Rattle.array_journal.proofs.owed.OwedLists.{outstanding_in-put}
-use Rattle.array_journal.proofs.owed.OwedItems.{task-covers, acted-before}
+use Rattle.array_journal.proofs.owed.LonePuts.{task-covers}
+use Rattle.array_journal.proofs.owed.OwedOnce.{acted-before}
 use Rattle.array_journal.proofs.owed.OwedSteps.{moves_delta, outstanding-still}
 use Rattle.array_journal.proofs.owed.EndedUpdates.{closes_renewal, renews_now}
 

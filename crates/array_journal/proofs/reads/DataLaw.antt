@@ -28,7 +28,7 @@ use Rattle.array_journal.proofs.runs.Steps.{media-here, media-else}
 use Rattle.array_journal.proofs.runs.Standing.{may-here}
 use Rattle.array_journal.proofs.lives.LifeLaws.{fresh-gone}
 use Rattle.array_journal.proofs.owed.EndedCommands.{act-open}
-use Rattle.array_journal.proofs.lives.AbsentLaws.{IsRebuild}
+use Rattle.array_journal.proofs.lives.DoneRebuilds.{IsRebuild}
 use Rattle.array_journal.proofs.sums.LayoutLaws.{IsBeside, covered-stripe, Falls, Within, Beside, row_falls}
 use Rattle.array_journal.proofs.reads.KnownBlocks.{known_in, known, stands, act_task, act_sound, PutsBy, puts_data, puts_degraded, puts_unit, puts_parity, puts-by, folded-size, media-size, Tells, by_diff, by_put, by_parity, IsWrite, SectorStep, tells_none, tells_write, sector-step, sectors_with, fetch-silent, put-write, put-silent, diff-write, known-written, known-beside, put-within, put-beside}
 use Rattle.array_journal.proofs.lives.ThereLaws.{There, Makes, there-step, there-works}

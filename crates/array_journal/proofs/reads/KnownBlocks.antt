@@ -1,7 +1,7 @@
 -- Blocks as hosts know them, by target and row, beside the blocks that stand; and what one more entry leaves of both.
 use Rattle.std.specs.Prelude.{◌≡◌, ◌≢◌, ◌<◌, ◌≤◌, ◌⊎◌, nat_lt, ℕ, zero, suc, ◌+◌, ◌-◌, ◌*◌, Bool, true, false, List, [], ◌∷◌, ◌++◌, Option, Some, None, length}
 use Rattle.std.proofs.Common.{refl, ap, sym, ◌∙◌, cond, arith, subst, inl, inr}
-use Rattle.std.proofs.lemmas.Bool.{cases_eq, eq-eqb, eqb-true, and_parts, false≢true}
+use Rattle.std.proofs.lemmas.Bool.{cases_eq, eq-eqb, eqb-true, false≢true}
 use Rattle.std.proofs.lemmas.List.{length-replicate}
 use Rattle.blocks_core.specs.Xor.{xor}
 use Rattle.blocks_core.proofs.XorLaws.{length-xor}
@@ -32,17 +32,14 @@ use Rattle.array_journal.proofs.runs.Steps.{media-here, media-else}
 use Rattle.array_journal.proofs.runs.Standing.{may-here}
 use Rattle.array_journal.proofs.runs.CommandLaws.{named-task}
 use Rattle.array_journal.proofs.owed.EndedCommands.{act-open}
-use Rattle.array_journal.proofs.lives.AbsentLaws.{task-sound}
+use Rattle.array_journal.proofs.lives.DoneRebuilds.{task-sound}
 use Rattle.array_journal.proofs.held.TaskPlaces.{rows-fit_bytes}
 use Rattle.array_journal.proofs.sums.LayoutLaws.{IsBeside, IsPlaced, IsPlaced-task, task_unit, lba_at-in, lba_at-other_unit, lba_at-other_row, lba_at-below, lba-fit_bytes, target_of-unit_at, unit_at-below, parity_of-below, row-below, Falls, Within, Beside, row_falls}
+use Rattle.array_journal.proofs.calm.ActSteps.{acts-there}
 
 -- the block that stands on a row of a target
 abbrev pub stands : Setting → List Entry → ℕ → ℕ → List ℕ
 stands s past i r = block_at s.geometry.block (media s i past) r
-
--- the kind's act there
-pub acts-there : (s : Setting) (act : Act) (task : Task) (i : ℕ) → has_act s act task i ≡ true → acts_at s.mode act task.kind task i ≡ true
-acts-there s act task i h = (and_parts (nat_lt i s.geometry.targets) (acts_at s.mode act task.kind task i) h).1
 
 pub act_task : (s : Setting) (past : List Entry) (stamp i c : ℕ) (opened : At) (cdb : Cdb) (row len sources : ℕ) (task : Task) (act : Act) → Grows s past →
     MayAct s past stamp i c opened cdb row len sources task act → task_of c past ≡ Some task

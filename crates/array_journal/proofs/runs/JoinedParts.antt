@@ -24,7 +24,8 @@ use Rattle.array_journal.proofs.runs.Standing.{passes-said, named-below, not-lat
 use Rattle.array_journal.proofs.runs.LaneLaws.{lane-fold, entry_at-lane, media-lane}
 use Rattle.array_journal.proofs.runs.BeginningLaws.{AllSmaller, lt-cases, rises-smaller, grows-follows, follows-grows}
 use Rattle.array_journal.proofs.windows.NamedReads.{rises-after, rise-tail}
-use Rattle.array_journal.proofs.runs.WiderPasts.{Wider, may-wider}
+use Rattle.array_journal.proofs.runs.WiderNames.{Wider}
+use Rattle.array_journal.proofs.runs.WiderPasts.{may-wider}
 
 -- what is kept of entries in their order
 filter-all : (P : Entry → Type 0) (p : Entry → Bool) (xs : List Entry) → AllByRecursion P xs → AllByRecursion P (filter p xs)
@@ -253,7 +254,7 @@ append-rises [] x r h = (tt, tt)
 append-rises (y ∷ []) x r h = (h.0, (tt, tt))
 append-rises (y ∷ z ∷ ys) x r h = (r.0, append-rises (z ∷ ys) x r.1 h.1)
 
-reverse-all : (P : Entry → Type 0) (xs : List Entry) → AllByRecursion P xs → AllByRecursion P (reverse xs)
+pub reverse-all : (P : Entry → Type 0) (xs : List Entry) → AllByRecursion P xs → AllByRecursion P (reverse xs)
 reverse-all P [] h = tt
 reverse-all P (x ∷ xs) h = subst (AllByRecursion P) (sym (reverse-append (x ∷ []) xs)) (append-all P (reverse xs) x (reverse-all P xs h.1) h.0)
 

@@ -5,7 +5,7 @@ use Rattle.array_journal.specs.declared.act.Act.TheVariants.{Diffs}
 use Rattle.array_journal.specs.May.{May, MayAct}
 use Rattle.array_journal.specs.ExampleJournals.{small, at, write_task, SpellsAct}
 use Rattle.array_journal.specs.Joined.{long_view, written_block, NumbersPartViews}
-use Rattle.array_journal.proofs.example_runs.TriedRuns.{may-diff}
+use Rattle.array_journal.proofs.example_runs.TriedWrites.{may-diff}
 
 follows-long : (diff : Cdb) → SpellsAct small write_task 0 Diffs diff → May small long_view (written_block diff)
 follows-long diff spelt = (refl, (lit< tt, (write_task, record { act = act; written = refl; sent_by_mode = refl; back_by_mode = refl; dropped_when_due = refl })))

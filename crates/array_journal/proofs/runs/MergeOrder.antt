@@ -123,3 +123,12 @@ unfolding IsDistinct
 own_names-of_locks lock [] h = tt
 own_names-of_locks lock (entries ∷ lists) h =
     own_names-more lock entries (joined lists) h.0.0 h.0.1 (locks_above lock lists h.1) (own_names-of_locks (suc lock) lists h.1)
+
+-- an entry above all others may end a list that rises
+pub rises-more : (entries : List Entry) (e : Entry) → Rises entries → AllByRecursion (λ (x : Entry). x.stamp < e.stamp) entries → Rises (entries ++ e ∷ [])
+rises-more [] e r below = tt
+rises-more (a ∷ []) e r below = (lower a.stamp e.stamp a.lock e.lock below.0, tt)
+  where
+    lower : (s t k l : ℕ) → s < t → (nat_lt s t || ((s == t) && nat_lt k l)) ≡ true
+    lower s t k l h = grind (arith, nat_tests)
+rises-more (a ∷ b ∷ entries) e r below = (r.0, rises-more (b ∷ entries) e r.1 below.1)

@@ -22,7 +22,9 @@ use Rattle.array_journal.proofs.held.HeldOwners.{ActAt, acts, act-asks, act-work
 use Rattle.array_journal.proofs.owed.EndedCommands.{act-open}
 use Rattle.array_journal.proofs.windows.WindowLaws.{exclusive-alone}
 use Rattle.array_journal.proofs.lives.AbsentLaws.{absent-exactly, act-present}
-use Rattle.array_journal.proofs.held.HeldLaws.{owners-open, held-apart, delta-held}
+use Rattle.array_journal.proofs.held.Holding.{owners-open}
+use Rattle.array_journal.proofs.held.NoRowTwice.{held-apart}
+use Rattle.array_journal.proofs.held.HeldUntil.{delta-held}
 use Rattle.array_journal.proofs.runs.BeginningLaws.{beginning-run, grows-rises, grows-follows, follows-grows}
 use Rattle.array_journal.proofs.lives.MendedLaws.{fresh-mended}
 use Rattle.array_journal.proofs.runs.LaneLaws.{own-lane, book-lane, entry_at-lane}

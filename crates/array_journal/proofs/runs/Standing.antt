@@ -98,6 +98,11 @@ pub passes-said : (test : Event → Bool) (name : At) (past : List Entry) (event
     passes test (entry_at name past) ≡ true
 passes-said test name past event e h = ap (passes test) e ∙ h
 
+pub passes-weaker : (test weaker : Event → Bool) (found : Option Event) → ((event : Event) → test event ≡ true → weaker event ≡ true) →
+    passes test found ≡ true → passes weaker found ≡ true
+passes-weaker test weaker None f h = h
+passes-weaker test weaker (Some event) f h = f event h
+
 -- an entry that is named stands at its lock
 pub some-named : (k : ℕ) (test : Event → Bool) (name : At) (past : List Entry) → name.lock ≡ k → passes test (entry_at name past) ≡ true →
     some_at k test past ≡ true

@@ -1,9 +1,7 @@
 -- What the exclusive-or of a row's data and parity becomes: nothing new, or parity written anew as the data.
-use Rattle.std.specs.Int.Bits.{xor_zero_l}
-use Rattle.std.specs.Prelude.{◌≡◌, ◌≢◌, ◌==◌, ◌||◌, ◌<◌, ◌≤◌, map, ℕ, zero, suc, ◌+◌, ◌-◌, Bool, true, false, List, [], ◌∷◌, Some, length}
+use Rattle.std.specs.Prelude.{◌≡◌, ◌≢◌, ◌==◌, ◌||◌, ◌<◌, map, ℕ, ◌+◌, ◌-◌, Bool, true, false, List, [], ◌∷◌, Some, length}
 use Rattle.std.proofs.Common.{refl, ap, sym, ◌∙◌, arith, inl, inr}
 use Rattle.std.proofs.lemmas.Bool.{eq-eqb, eqb-true, or_left, or_right}
-use Rattle.std.proofs.lemmas.List.{length-replicate}
 use Rattle.blocks_core.specs.Xor.{xor, zeros, xor_all}
 use Rattle.blocks_core.proofs.XorLaws.{xor-self}
 use Rattle.stripe_layout.specs.Layout.{parity_of, lba_at, IsRowOf}
@@ -35,24 +33,6 @@ use Rattle.array_journal.proofs.windows.WindowReads.{Kept, owed_sum}
 use Rattle.array_journal.proofs.windows.PutBlocks.{data_sum_in, put-parity, put-degraded}
 use Rattle.array_journal.proofs.reads.DataLaw.{put-alone, within-stripe}
 use Rattle.array_journal.proofs.owed.OwedSteps.{outstanding-put}
-
--- zeros change nothing that is as long or longer
-pub zeros-short : (b : ℕ) (x : List ℕ) → b ≤ length x → xor (zeros b) x ≡ x
-zeros-short zero x h = refl
-zeros-short (suc b) [] h = absurd (omega arith)
-zeros-short (suc b) (a ∷ x) h = ap (λ (n : ℕ). n ∷ xor (zeros b) x) (xor_zero_l a) ∙ ap (λ (l : List ℕ). a ∷ l) (zeros-short b x (omega arith))
-
-length-longer : (x y : List ℕ) → length y ≤ length (xor x y)
-length-longer [] y = omega arith
-length-longer (a ∷ x) [] = omega arith
-length-longer (a ∷ x) (c ∷ y) = let rest : length y ≤ length (xor x y) = length-longer x y in omega arith
-
--- a sum of blocks is at least one block long
-pub sum-long : (b : ℕ) (blocks : List (List ℕ)) → b ≤ length (xor_all b blocks)
-sum-long b [] = let e : length (zeros b) ≡ b = length-replicate b 0 in omega arith
-sum-long b (x ∷ blocks) =
-    let rest : b ≤ length (xor_all b blocks) = sum-long b blocks in
-    let longer : length (xor_all b blocks) ≤ length (xor x (xor_all b blocks)) = length-longer x (xor_all b blocks) in omega arith
 
 -- what an entry that writes nothing for hosts here leaves of the data of a row
 pub sum-kept : (s : Setting) (e : Entry) (past : List Entry) (stripe r : ℕ) → IsSetting s → Grows s (e ∷ past) → IsRowOf s.geometry stripe r →

@@ -5,10 +5,10 @@ use Rattle.std.specs.Prelude.{map, filter, ◌==◌, ◌&&◌, ◌||◌, not, na
 use Rattle.std.specs.List.{AllByRecursion}
 use Rattle.std.proofs.lemmas.Bool.{cases_eq, cases_Bool, eq-eqb, ne_eqb, eqb-true, and_from, and_parts, and_right, or_cases, or_parts, not-true, both_ways, false≢true}
 use Rattle.blocks_core.specs.Xor.{xor, zeros, xor_all}
-use Rattle.blocks_core.proofs.XorLaws.{xor-assoc, xor-comm}
 use Rattle.array_journal.specs.declared.at.At.{At}
 use Rattle.array_journal.specs.Lists.{numbers}
 use Rattle.array_journal.proofs.sums.LayoutLaws.{chosen_below, chosen_above}
+use Rattle.array_journal.proofs.sums.XorSums.{xor-front}
 
 -- the exclusive-or of a block of each number from first on that passes, of so many
 abbrev pub sum_where : ℕ → (ℕ → Bool) → (ℕ → List ℕ) → ℕ → ℕ → List ℕ
@@ -49,10 +49,6 @@ sum-none b test f zero first none = refl
 sum-none b test f (suc m) first none =
     ap (λ y. xor_all b (map f (cond y (first ∷ filter test (numbers (suc first) m)) (filter test (numbers (suc first) m))))) (none first (omega arith) (omega arith))
     ∙ sum-none b test f m (suc first) (λ x low high. none x (omega arith) (omega arith))
-
--- a block of two in front of the rest may come first
-xor-front : (x y z : List ℕ) → xor x (xor y z) ≡ xor y (xor x z)
-xor-front x y z = sym (xor-assoc x y z) ∙ ap (λ w. xor w z) (xor-comm x y) ∙ xor-assoc y x z
 
 -- one of them, apart from the others
 pub sum-apart : (b : ℕ) (test : ℕ → Bool) (f : ℕ → List ℕ) (k m first : ℕ) → first ≤ k → k < first + m → test k ≡ true →

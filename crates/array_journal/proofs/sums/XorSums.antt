@@ -1,8 +1,8 @@
 -- The exclusive-or of a block of each of some numbers.
-use Rattle.std.proofs.Common.{◌≡◌, ℕ, zero, suc, ◌+◌, ◌<◌, ◌≤◌, List, ◌∷◌, refl, ap, ◌∙◌, arith}
+use Rattle.std.proofs.Common.{◌≡◌, ℕ, zero, suc, ◌+◌, ◌<◌, ◌≤◌, List, ◌∷◌, refl, ap, ◌∙◌, arith, sym}
 use Rattle.std.specs.Prelude.{map}
 use Rattle.blocks_core.specs.Xor.{xor, zeros, xor_all}
-use Rattle.blocks_core.proofs.XorLaws.{zeros-zeros}
+use Rattle.blocks_core.proofs.XorLaws.{zeros-zeros, xor-assoc, xor-comm}
 use Rattle.array_journal.specs.Lists.{numbers}
 
 -- the blocks of some numbers, one after another
@@ -19,3 +19,7 @@ xor_all-zeros b f zero first none = refl
 xor_all-zeros b f (suc m) first none =
     ap (λ x. xor x (xor_all b (map f (numbers (suc first) m)))) (none first (omega arith) (omega arith))
     ∙ ap (xor (zeros b)) (xor_all-zeros b f m (suc first) (λ x low high. none x (omega arith) (omega arith))) ∙ zeros-zeros b
+
+-- a block of two in front of the rest may come first
+pub xor-front : (x y z : List ℕ) → xor x (xor y z) ≡ xor y (xor x z)
+xor-front x y z = sym (xor-assoc x y z) ∙ ap (λ w. xor w z) (xor-comm x y) ∙ xor-assoc y x z

@@ -27,14 +27,14 @@ use Rattle.array_journal.specs.Host.{unit_at, task_lba}
 use Rattle.array_journal.specs.May.{MayAct, MayFetch, MayCloseWhole, EachOwn, NamesActs, is_own_act, is_named, passes, bytes_of, bytes_named, first_taken, answered, taken, closed_bytes, IsTask, IsTaskOfKind}
 use Rattle.array_journal.specs.Run.{IsSetting, Grows, sectors}
 use Rattle.array_journal.specs.Laws.{RunsAlone}
-use Rattle.array_journal.proofs.calm.ActSteps.{has-there}
+use Rattle.array_journal.proofs.calm.ActSteps.{has-there, acts-there}
 use Rattle.array_journal.proofs.runs.Standing.{passes-event, passes-said}
-use Rattle.array_journal.proofs.lives.AbsentLaws.{task-sound}
+use Rattle.array_journal.proofs.lives.DoneRebuilds.{task-sound}
 use Rattle.blocks_core.proofs.BlockLists.{block_at-xor, block_at-zeros, slices_by_blocks}
 use Rattle.array_journal.proofs.sums.LayoutLaws.{IsPlaced-task, lba_at-in, task_row}
 use Rattle.array_journal.proofs.held.HeldGathers.{IsHoldOf, took-gathered}
 use Rattle.array_journal.proofs.sums.TargetSums.{sum-tests, is_named_at, IsOf, sum-named}
-use Rattle.array_journal.proofs.reads.KnownBlocks.{known, stands, acts-there, act_task}
+use Rattle.array_journal.proofs.reads.KnownBlocks.{known, stands, act_task}
 use Rattle.array_journal.proofs.lives.ThereLaws.{is_present}
 use Rattle.array_journal.proofs.lives.OpenedUnits.{read-there}
 use Rattle.array_journal.proofs.windows.WindowViews.{view, others-known}

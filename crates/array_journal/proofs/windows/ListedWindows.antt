@@ -23,7 +23,7 @@ use Rattle.array_journal.specs.Run.{Grows}
 use Rattle.array_journal.proofs.runs.CommandLaws.{one_task}
 use Rattle.array_journal.proofs.runs.Standing.{may-book}
 use Rattle.array_journal.proofs.windows.WindowLaws.{opens-event, older-open, older-task, exclusive-alone}
-use Rattle.array_journal.proofs.lives.AbsentLaws.{opened-task}
+use Rattle.array_journal.proofs.lives.DoneRebuilds.{opened-task}
 
 -- a command of this kind and task takes the stripe's blocks as what they are to be together
 abbrev pub reads_whole : Kind → Task → Bool

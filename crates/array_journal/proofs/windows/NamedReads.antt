@@ -24,7 +24,7 @@ use Rattle.array_journal.proofs.runs.CommandLaws.{task-opened, one_task}
 use Rattle.array_journal.proofs.runs.BeginningLaws.{lt-cases, lt-trans}
 use Rattle.array_journal.proofs.sums.TargetSums.{is_named_at, AreAtOthers}
 use Rattle.array_journal.proofs.reads.KnownBlocks.{stands, act_task}
-use Rattle.array_journal.proofs.lives.ThereLaws.{kept-task}
+use Rattle.array_journal.proofs.lives.FinishedRebuilds.{kept-task}
 
 -- a command has one act of a sort at a target
 pub same-act : (s : Setting) (act : Act) (c i : ℕ) (a b : At) (past : List Entry) → Grows s past → a.lock ≡ i + 1 → b.lock ≡ i + 1 →

@@ -23,7 +23,7 @@ use Rattle.array_journal.specs.May.{MayPut, NamesAt, fetched_targets, bytes_name
 use Rattle.array_journal.specs.Run.{IsSetting, Grows}
 use Rattle.array_journal.specs.Laws.{RunsAlone}
 use Rattle.array_journal.proofs.sums.LayoutLaws.{task_row}
-use Rattle.array_journal.proofs.lives.AbsentLaws.{task-sound}
+use Rattle.array_journal.proofs.lives.DoneRebuilds.{task-sound}
 use Rattle.blocks_core.proofs.BlockLists.{block_at-xor}
 use Rattle.array_journal.proofs.sums.TargetSums.{sum_where, but, sum-tests, sum-blocks, sum-apart}
 use Rattle.array_journal.proofs.reads.KnownBlocks.{known_in, known, IsWrite, sectors_with, known-written, known-beside}

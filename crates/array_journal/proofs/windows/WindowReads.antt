@@ -33,13 +33,14 @@ use Rattle.array_journal.proofs.sums.LayoutLaws.{task_row}
 use Rattle.array_journal.proofs.owed.OwedLaws.{window-owes_nothing}
 use Rattle.array_journal.proofs.windows.ListedWindows.{reads_whole, window-unlisted}
 use Rattle.array_journal.proofs.runs.CommandLaws.{one_task}
-use Rattle.array_journal.proofs.lives.AbsentLaws.{task-sound}
+use Rattle.array_journal.proofs.lives.DoneRebuilds.{task-sound}
 use Rattle.blocks_core.proofs.BlockLists.{block_at-xor, block_at-slice}
 use Rattle.array_journal.proofs.sums.TargetSums.{sum_where, but, sum-tests, sum-apart}
-use Rattle.array_journal.proofs.reads.KnownBlocks.{known, stands, acts-there, act_task, Tells, by_diff, by_put, by_parity, length-stands}
+use Rattle.array_journal.proofs.reads.KnownBlocks.{known, stands, act_task, Tells, by_diff, by_put, by_parity, length-stands}
 use Rattle.array_journal.proofs.lives.ThereLaws.{There, is_present}
 use Rattle.array_journal.proofs.lives.OpenedUnits.{alone-there}
 use Rattle.array_journal.proofs.windows.WindowViews.{data_sum, view, view-data, view-parity, length-data_sum, others-known, named-blocks, cancelled-same}
+use Rattle.array_journal.proofs.calm.ActSteps.{acts-there}
 
 -- the exclusive-or of the deltas that parity lacks on a row
 abbrev pub owed_sum : Setting → List Entry → ℕ → ℕ → List ℕ

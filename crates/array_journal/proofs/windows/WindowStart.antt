@@ -26,7 +26,7 @@ use Rattle.array_journal.specs.Known.{known_in, view, WindowReadsLaw, IsOfUpdate
 use Rattle.array_journal.proofs.runs.Standing.{some-named}
 use Rattle.array_journal.proofs.runs.CommandLaws.{one_task, named-task}
 use Rattle.array_journal.proofs.held.HeldOwners.{HasAct, acted-has}
-use Rattle.array_journal.proofs.lives.AbsentLaws.{task-sound}
+use Rattle.array_journal.proofs.lives.DoneRebuilds.{task-sound}
 use Rattle.array_journal.proofs.reads.KnownBlocks.{SectorStep, tells_none, tells_write, Tells, by_diff, by_put, by_parity, sector-step}
 use Rattle.array_journal.proofs.windows.WindowViews.{view-still}
 use Rattle.array_journal.proofs.windows.WindowReads.{ReadsBy, fetches-by, read-unwritten, below-targets}

@@ -23,9 +23,9 @@ use Rattle.array_journal.proofs.runs.Standing.{may-here, some-named, passes-case
 use Rattle.array_journal.proofs.runs.CommandLaws.{opened-once, task-opened, one_task}
 use Rattle.array_journal.proofs.held.HeldOwners.{HasAct, act-asks, act-task, acted-has}
 use Rattle.array_journal.proofs.windows.WindowLaws.{older-open}
-use Rattle.array_journal.proofs.lives.AbsentLaws.{task-sound}
+use Rattle.array_journal.proofs.lives.DoneRebuilds.{task-sound}
 use Rattle.array_journal.proofs.reads.KnownBlocks.{known, act_task}
-use Rattle.array_journal.proofs.lives.ThereLaws.{kept-task}
+use Rattle.array_journal.proofs.lives.FinishedRebuilds.{kept-task}
 use Rattle.array_journal.proofs.windows.WindowViews.{view, view-still, known-still}
 use Rattle.array_journal.proofs.windows.WindowReads.{Kept, fetches-by, holds-by, HoldsBy, held_bytes, read-unwritten, reads-silent, degraded-target, below-targets, fetch-read, hold-gathers}
 

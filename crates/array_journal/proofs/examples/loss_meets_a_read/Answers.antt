@@ -1,4 +1,4 @@
-use Rattle.array_journal.proofs.example_runs.TriedRuns.{loss-meets_a_read}
+use Rattle.array_journal.proofs.example_runs.TriedLosses.{loss-meets_a_read}
 use Rattle.array_journal.proofs.examples.loss_meets_a_read.Goals as goal
 
 pub returns : goal.returns

@@ -1,4 +1,4 @@
-use Rattle.array_journal.proofs.runs.PartsLaws.{parts-give_may}
+use Rattle.array_journal.proofs.runs.MayOfParts.{parts-give_may}
 use Rattle.array_journal.proofs.parts.parts_give_may.Goals as goal
 
 pub returns : goal.returns

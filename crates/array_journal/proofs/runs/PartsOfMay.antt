@@ -1,6 +1,6 @@
--- What may follow a journal is what is asked, what is found, and what is later.
-use Rattle.std.specs.Prelude.{◌≡◌, ◌<◌, ◌⊎◌, ℕ, zero, suc, ◌+◌, Bool, true, false, List, [], ◌∷◌, Option, Some, None}
-use Rattle.std.proofs.Common.{refl, sym, subst, inl, inr}
+-- What may follow a journal is asked, is found, and is later.
+use Rattle.std.specs.Prelude.{◌≡◌, ◌<◌, ◌⊎◌, ℕ, zero, suc, ◌+◌, Bool, true, false, List, Option, Some, None}
+use Rattle.std.proofs.Common.{sym, subst, inl, inr}
 use Rattle.std.proofs.lemmas.Bool.{or_left, or_right}
 use Rattle.sbc_cdbs.specs.declared.descriptor.Cdb.{Cdb}
 use Rattle.array_journal.specs.declared.at.At.{At}
@@ -16,8 +16,10 @@ use Rattle.array_journal.specs.declared.act.Act.{Act}
 use Rattle.array_journal.specs.declared.act.Act.TheVariants.{Fetches}
 use Rattle.array_journal.specs.Acts.{targets_that, is_target, is_act}
 use Rattle.array_journal.specs.Lives.{is_loss, swap_count}
-use Rattle.array_journal.specs.May.{MayAt, MayBook, MayTarget, MayAct, MayClose, MaySpoil, Names, NamesAt, NamesActs, EachOwn, IsCause, IsCauseOfKind, IsCauseOfLoss, passes, fetched_targets, is_loss_in, is_wipe_of, shuts_idle, is_dropped_diff, discards}
-use Rattle.array_journal.specs.Parts.{Named, NamedAt, EachNamed, AskedAct, FoundAct, NamedActs, AskedClose, AskedSpoil, FoundLoss, FoundCause, FoundCauseOfKind, FoundClose, Asked, AskedBook, AskedTarget, Found, FoundBook, FoundTarget, is_cause_of, named_by, with_cause, AllEarlier, MayHasParts, PartsGiveMay}
+use Rattle.array_journal.specs.May.{MayAt, MayBook, MayTarget, MayAct, MayClose, MaySpoil, Names, IsCause, IsCauseOfKind, IsCauseOfLoss, fetched_targets, is_loss_in, is_wipe_of, shuts_idle, is_dropped_diff, discards}
+use Rattle.array_journal.specs.Parts.{Named, AskedAct, FoundAct, AskedClose, AskedSpoil, FoundLoss, FoundCause, FoundCauseOfKind, FoundClose, Asked, AskedBook, AskedTarget, Found, FoundBook, FoundTarget, is_cause_of, named_by, AllEarlier, MayHasParts}
+use Rattle.array_journal.proofs.runs.PartsOfNames.{named_at, each_named, named_acts, loss_of_life}
+use Rattle.array_journal.proofs.runs.Standing.{passes-weaker}
 
 -- acts
 asked-act : {s : Setting} {past : List Entry} {stamp i c : ℕ} {opened : At} {cdb : Cdb} {row len sources : ℕ} {task : Task} {act : Act} →
@@ -37,83 +39,6 @@ found-act : {s : Setting} {past : List Entry} {stamp i c : ℕ} {opened : At} {c
     MayAct s past stamp i c opened cdb row len sources task act → FoundAct past i opened
 found-act m = record { not_gone = m.not_gone; same_life = m.same_life }
 
-may-act : {s : Setting} {past : List Entry} {stamp i c : ℕ} {opened : At} {cdb : Cdb} {row len sources : ℕ} {task : Task} {act : Act} →
-    AskedAct s past i c opened cdb row len sources task act → FoundAct past i opened → opened.stamp < stamp →
-    MayAct s past stamp i c opened cdb row len sources task act
-may-act a f later = record {
-  opening = (a.opening, later);
-  in_book = a.in_book;
-  of_task = a.of_task;
-  not_gone = f.not_gone;
-  not_shut = a.not_shut;
-  once = a.once;
-  same_life = f.same_life;
-  at_row = a.at_row;
-  whole = a.whole;
-  spelt = a.spelt;
-}
-
--- lists of names
-named_at : (past : List Entry) (stamp : ℕ) (targets : List ℕ) (test : Event → Bool) (names : List At) → NamesAt past stamp targets test names →
-    NamedAt past targets test names × AllEarlier stamp names
-named_at past stamp [] test [] m = (tt, tt)
-named_at past stamp [] test (name ∷ names) m = absurd m
-named_at past stamp (i ∷ targets) test [] m = absurd m
-named_at past stamp (i ∷ targets) test (name ∷ names) m =
-    let rest = named_at past stamp targets test names m.1 in (((m.0.0, m.0.1.0), rest.0), (m.0.1.1, rest.1))
-
-names_at : (past : List Entry) (stamp : ℕ) (targets : List ℕ) (test : Event → Bool) (names : List At) → NamedAt past targets test names →
-    AllEarlier stamp names → NamesAt past stamp targets test names
-names_at past stamp [] test [] m later = tt
-names_at past stamp [] test (name ∷ names) m later = absurd m
-names_at past stamp (i ∷ targets) test [] m later = absurd m
-names_at past stamp (i ∷ targets) test (name ∷ names) m later =
-    ((m.0.0, (m.0.1, later.0)), names_at past stamp targets test names m.1 later.1)
-
-each_named : (s : Setting) (past : List Entry) (stamp c : ℕ) (task : Task) (names : List At) → EachOwn s past stamp c task names →
-    EachNamed s past c task names × AllEarlier stamp names
-each_named s past stamp c task [] m = (tt, tt)
-each_named s past stamp c task (name ∷ names) m =
-    let rest = each_named s past stamp c task names m.1 in ((m.0.0, rest.0), (m.0.1, rest.1))
-
-each_own : (s : Setting) (past : List Entry) (stamp c : ℕ) (task : Task) (names : List At) → EachNamed s past c task names →
-    AllEarlier stamp names → EachOwn s past stamp c task names
-each_own s past stamp c task [] m later = tt
-each_own s past stamp c task (name ∷ names) m later = ((m.0, later.0), each_own s past stamp c task names m.1 later.1)
-
-named_acts : {s : Setting} {past : List Entry} {stamp c : ℕ} {task : Task} {names : List At} → NamesActs s past stamp c task names →
-    NamedActs s past c task names
-named_acts {s} {past} {stamp} {c} {task} {names} m = record {
-  in_order = m.in_order;
-  only = (each_named s past stamp c task names m.only).0;
-  fetches = m.fetches;
-  puts = m.puts;
-  diffs = m.diffs;
-  takes = m.takes;
-  holds = m.holds;
-}
-
-names_acts : {s : Setting} {past : List Entry} {c : ℕ} {task : Task} {names : List At} (stamp : ℕ) → NamedActs s past c task names →
-    AllEarlier stamp names → NamesActs s past stamp c task names
-names_acts {s} {past} {c} {task} {names} stamp m later = record {
-  in_order = m.in_order;
-  only = each_own s past stamp c task names m.only later;
-  fetches = m.fetches;
-  puts = m.puts;
-  diffs = m.diffs;
-  takes = m.takes;
-  holds = m.holds;
-}
-
--- a stronger test
-passes_also : (test other : Event → Bool) (o : Option Event) → ((e : Event) → test e ≡ true → other e ≡ true) → passes test o ≡ true → passes other o ≡ true
-passes_also test other None h m = m
-passes_also test other (Some e) h m = h e m
-
-loss_of_life : (life : ℕ) (e : Event) → is_loss_in life e ≡ true → is_loss e ≡ true
-loss_of_life life (Gone its call commands) h = refl
-loss_of_life life _ h = h
-
 cause_by_loss : (c life : ℕ) (e : Event) → is_loss_in life e ≡ true → is_cause_of c e ≡ true
 cause_by_loss c life e h = or_left (is_loss e) (is_wipe_of c e) (loss_of_life life e h)
 
@@ -124,9 +49,6 @@ cause_by_wipe c e h = or_right (is_loss e) (is_wipe_of c e) h
 found-loss : {past : List Entry} {stamp i : ℕ} {cause : At} → IsCauseOfLoss past stamp i cause → FoundLoss past i cause
 found-loss m = record { at_target = m.at_target; lost = m.lost.0; known = m.known }
 
-cause-of_loss : {past : List Entry} {i : ℕ} {cause : At} (stamp : ℕ) → FoundLoss past i cause → cause.stamp < stamp → IsCauseOfLoss past stamp i cause
-cause-of_loss stamp f later = record { at_target = f.at_target; lost = (f.lost, later); known = f.known }
-
 record CauseParts (s : Setting) (past : List Entry) (stamp c : ℕ) (task : Task) (cause : At) (found : Type 0) : Type 0 where
   named : Named past cause (is_cause_of c)
   fits : found
@@ -135,12 +57,12 @@ record CauseParts (s : Setting) (past : List Entry) (stamp c : ℕ) (task : Task
 kind-parts : (s : Setting) (past : List Entry) (stamp c : ℕ) (task : Task) (cause : At) (kind : Kind) → IsCauseOfKind past stamp c task cause kind →
     CauseParts s past stamp c task cause (FoundCauseOfKind past c task cause kind)
 kind-parts s past stamp c task cause Rebuild (life, m) = record {
-  named = passes_also (is_loss_in life) (is_cause_of c) (entry_at cause past) (cause_by_loss c life) m.1.1.0;
+  named = passes-weaker (is_loss_in life) (is_cause_of c) (entry_at cause past) (cause_by_loss c life) m.1.1.0;
   fits = (life, (m.0, (m.1.0, m.1.1.0)));
   earlier = m.1.1.1;
 }
 kind-parts s past stamp c task cause DegradedRead m = record {
-  named = passes_also (is_wipe_of c) (is_cause_of c) (entry_at cause past) (cause_by_wipe c) m.0;
+  named = passes-weaker (is_wipe_of c) (is_cause_of c) (entry_at cause past) (cause_by_wipe c) m.0;
   fits = m.0;
   earlier = m.1;
 }
@@ -149,24 +71,13 @@ kind-parts s past stamp c task cause _ m = absurd m
 cause-parts : (s : Setting) (past : List Entry) (stamp c : ℕ) (task : Task) (cause : At) → IsCause s past stamp c task cause →
     CauseParts s past stamp c task cause (FoundCause s past c task cause)
 cause-parts s past stamp c task cause (inl (i, m)) = record {
-  named = passes_also (is_loss_in (swap_count i past)) (is_cause_of c) (entry_at cause past) (cause_by_loss c (swap_count i past)) m.1.lost.0;
+  named = passes-weaker (is_loss_in (swap_count i past)) (is_cause_of c) (entry_at cause past) (cause_by_loss c (swap_count i past)) m.1.lost.0;
   fits = inl (i, (m.0, found-loss m.1));
   earlier = m.1.lost.1;
 }
 cause-parts s past stamp c task cause (inr m) =
     let k = kind-parts s past stamp c task cause task.kind m in
     record { named = k.named; fits = inr k.fits; earlier = k.earlier }
-
-kind-whole : (past : List Entry) (stamp c : ℕ) (task : Task) (cause : At) (kind : Kind) → FoundCauseOfKind past c task cause kind → cause.stamp < stamp →
-    IsCauseOfKind past stamp c task cause kind
-kind-whole past stamp c task cause Rebuild (life, m) later = (life, (m.0, (m.1.0, (m.1.1, later))))
-kind-whole past stamp c task cause DegradedRead m later = (m, later)
-kind-whole past stamp c task cause _ m later = absurd m
-
-cause-whole : (s : Setting) (past : List Entry) (stamp c : ℕ) (task : Task) (cause : At) → FoundCause s past c task cause → cause.stamp < stamp →
-    IsCause s past stamp c task cause
-cause-whole s past stamp c task cause (inl (i, m)) later = inl (i, (m.0, cause-of_loss stamp m.1 later))
-cause-whole s past stamp c task cause (inr m) later = inr (kind-whole past stamp c task cause task.kind m later)
 
 -- the three parts of an event, with the stamp's
 record EventParts (asked found : Type 0) (stamp : ℕ) (event : Event) : Type 0 where
@@ -188,7 +99,7 @@ close-parts s past stamp c true names (Some cause) bytes task m = record {
     acts = named_acts m.acts;
     no_fold = m.no_fold;
     at_parity = m.parity_lost.at_target;
-    names_loss = passes_also (is_loss_in (swap_count task.parity past)) is_loss (entry_at cause past)
+    names_loss = passes-weaker (is_loss_in (swap_count task.parity past)) is_loss (entry_at cause past)
         (loss_of_life (swap_count task.parity past)) m.parity_lost.lost.0;
     no_answer = m.no_answer;
   };
@@ -204,25 +115,6 @@ close-parts s past stamp c false names (Some cause) bytes task m =
       found_part = parts.fits;
       earlier = (parts.earlier, shut.1);
     }
-
-close-whole : (s : Setting) (past : List Entry) (stamp c : ℕ) (done : Bool) (names : List At) (cause : Option At) (bytes : List ℕ) (task : Task) →
-    AskedClose s past c done names cause bytes task → FoundClose s past c done cause (Some task) → AllEarlier stamp (with_cause cause names) →
-    MayClose s past stamp c done names cause bytes task
-close-whole s past stamp c true names None bytes task a f later =
-    record { acts = names_acts stamp a.acts later; folds = a.folds; no_cause = refl; answer = a.answer }
-close-whole s past stamp c true names (Some cause) bytes task a f later = record {
-  update = a.update;
-  acts = names_acts stamp a.acts later.1;
-  no_fold = a.no_fold;
-  parity_lost = cause-of_loss stamp f later.0;
-  no_answer = a.no_answer;
-}
-close-whole s past stamp c false names None bytes task a f later = absurd a
-close-whole s past stamp c false names (Some cause) bytes task a f later = record {
-  shut = names_at past stamp (targets_that s (is_target s task)) (shuts_idle c) names a.shut later.1;
-  for_cause = cause-whole s past stamp c task cause f later.0;
-  no_answer = a.no_answer;
-}
 
 -- a spoil's loss is the diff itself, or an entry that discarded the delta
 loss-parts : (past : List Entry) (stamp c target : ℕ) (diff loss : At) →
@@ -269,7 +161,7 @@ book-parts s past stamp (Note slot lost) m = record {
   asked_part = record {
     slot = m.0;
     at_target = m.1.at_target;
-    names_loss = passes_also (is_loss_in (swap_count slot past)) is_loss (entry_at lost past) (loss_of_life (swap_count slot past)) m.1.names_loss.0;
+    names_loss = passes-weaker (is_loss_in (swap_count slot past)) is_loss (entry_at lost past) (loss_of_life (swap_count slot past)) m.1.names_loss.0;
   };
   found_part = record { in_life = m.1.names_loss.0; not_known = m.1.not_known };
   earlier = (m.1.names_loss.1, tt);
@@ -348,98 +240,3 @@ pub may-has_parts : MayHasParts
 may-has_parts s past e m =
     let parts = at-parts s past e.stamp e.lock e.event m.1 in
     record { asked = parts.asked_part; found = parts.found_part; later = (m.0, parts.earlier) }
-
--- and back
-book-whole : (s : Setting) (past : List Entry) (stamp : ℕ) (event : Event) → AskedBook s past event → FoundBook s past event →
-    AllEarlier stamp (named_by event) → MayBook s past stamp event
-book-whole s past stamp (Open command task) a f later =
-    record { numbered = f.numbered; sound = a; decided = f.decided; alone = f.alone; room = f.room }
-book-whole s past stamp (Close command done names cause bytes) (task, a) f later = (
-  task,
-  (
-    a.0,
-    close-whole s past stamp command done names cause bytes task a.1
-        (subst (λ (o : Option Task). FoundClose s past command done cause o) a.0.1 f) later,
-  ),
-)
-book-whole s past stamp (Spoil command diff loss shut) (task, a) f later = (
-  task,
-  (
-    a.0,
-    record {
-      update = a.1.update;
-      at_target = a.1.at_target;
-      differed = (a.1.differed, later.0);
-      lost = elim a.1.lost [ inl h ↦ inl (h.0, (h.1, later.0)) | inr h ↦ inr (h.0, (h.1, later.1.0)) ];
-      at_parity = a.1.at_parity;
-      shut_idle = (a.1.shut_idle, later.1.1.0);
-    },
-  ),
-)
-book-whole s past stamp (Note slot lost) a f later =
-    (a.slot, record { at_target = a.at_target; names_loss = (f.in_life, later.0); not_known = f.not_known })
-book-whole s past stamp (Swap slot call) a f later = (a, f)
-book-whole s past stamp (Refuse call piece why) a f later = tt
-book-whole s past stamp _ a f later = absurd a
-
-target-whole : (s : Setting) (past : List Entry) (stamp i : ℕ) (event : Event) → AskedTarget s past i event → FoundTarget s past i event →
-    AllEarlier stamp (named_by event) → MayTarget s past stamp i event
-target-whole s past stamp i (Fetch command opened cdb row bytes) (task, a) f later =
-    (task, record { act = may-act a f.act later.0; read = f.read })
-target-whole s past stamp i (Put command opened cdb row bytes names) (task, a) f later = (
-  task,
-  record {
-    act = may-act a.act f later.0;
-    fetched = names_at past stamp (fetched_targets s task) (is_act Fetches command) names a.fetched later.1;
-    made = a.made;
-  },
-)
-target-whole s past stamp i (Diff command opened cdb row bytes sent dropped back) (task, a) f later = (
-  task,
-  record {
-    act = may-act a.act f.act later.0;
-    written = a.written;
-    sent_by_mode = a.sent_by_mode;
-    back_by_mode = a.back_by_mode;
-    dropped_when_due = f.dropped_when_due;
-  },
-)
-target-whole s past stamp i (Take command opened cdb row bytes) (task, a) f later =
-    (task, record { act = may-act a f.act later.0; taken = f.taken })
-target-whole s past stamp i (Fold command opened cdb row bytes names) (task, (name, a)) f later =
-    let earlier = subst (λ (ns : List At). AllEarlier stamp ns) a.one later.1 in
-    (task, (name, record { act = may-act a.act f later.0; one = a.one; at_source = a.at_source; earlier = earlier.0; source = a.source }))
-target-whole s past stamp i (Hold command opened cdb row bytes kept names back) (task, a) f later = (
-  task,
-  record {
-    act = may-act a.act f.act later.0;
-    kept_here = a.kept_here;
-    not_handed = a.not_handed;
-    fetched = names_at past stamp (fetched_targets s task) (is_act Fetches command) names a.fetched later.1;
-    made = f.made;
-  },
-)
-target-whole s past stamp i (Shut command opened acted lost) (task, a) f later = (
-  task,
-  record {
-    opening = (a.opening, later.0);
-    in_book = a.in_book;
-    of_task = a.of_task;
-    once = a.once;
-    unanswered = a.unanswered;
-    says_acted = f.says_acted;
-    says_lost = f.says_lost;
-  },
-)
-target-whole s past stamp i (Gone life call commands) a f later = f
-target-whole s past stamp i (Wiped what call commands) a f later = f
-target-whole s past stamp i (Fresh call swap) a f later = record { swapped = (a.swapped, later.0); in_book = a.in_book; next_disk = f }
-target-whole s past stamp i _ a f later = absurd a
-
-at-whole : (s : Setting) (past : List Entry) (stamp lock : ℕ) (event : Event) → Asked s past lock event → Found s past lock event →
-    AllEarlier stamp (named_by event) → MayAt s past stamp lock event
-at-whole s past stamp zero event a f later = book-whole s past stamp event a f later
-at-whole s past stamp (suc i) event a f later = (a.0, target-whole s past stamp i event a.1 f later)
-
-pub parts-give_may : PartsGiveMay
-parts-give_may s past e h = (h.later.0, at-whole s past e.stamp e.lock e.event h.asked h.found h.later.1)
