@@ -1,7 +1,7 @@
 -- What spells a script is read as that script.
-use Rattle.std.proofs.Common.{◌≡◌, ℕ, zero, suc, ◌+◌, ◌*◌, ◌%◌, ◌^◌, ◌<◌, ◌≤◌, inl, inr, ◌||◌, ◌==◌, nat_lt, nat_le, Bool, true, false, List, [], ◌∷◌, ◌++◌, length, map, get_or, Some, None, Result, Ok, refl, ap, ◌∙◌, length-append, arith}
+use Rattle.std.proofs.Common.{◌≡◌, ℕ, ◌+◌, ◌*◌, ◌%◌, ◌^◌, ◌<◌, ◌≤◌, inl, inr, ◌||◌, ◌==◌, nat_lt, nat_le, Bool, true, false, List, [], ◌∷◌, ◌++◌, length, map, get_or, Some, None, Result, Ok, refl, ap, ◌∙◌, arith}
 use Rattle.std.specs.Prelude.{codes}
-use Rattle.std.specs.List.{flat_map, list_all, AllByRecursion}
+use Rattle.std.specs.List.{list_all, AllByRecursion}
 use Rattle.std.proofs.lemmas.Bool.{le-leb, lt-ltb}
 use Rattle.std.proofs.lemmas.Bool.Decides.{nat_tests}
 use Rattle.stripe_layout.specs.Layout.{greatest_unit}
@@ -23,6 +23,7 @@ use Rattle.host_scripts.proofs.Texts.{cap, kept_maxima, maxima_line, maxima_rule
 use Rattle.host_scripts.proofs.NumberLines.{cap-small, number-line}
 use Rattle.host_scripts.proofs.ShapeAgain.{shape-again}
 use Rattle.host_scripts.proofs.CallTexts.{kept_action, kept_call, call_rule}
+use Rattle.host_scripts.proofs.EachLine.{rows, each-again}
 
 -- ---- what is in range is kept as it is
 
@@ -105,10 +106,6 @@ head-parts : (s : Script) (b0 b1 b2 rest : List ℕ) → shape_at b0 ≡ Ok (s.v
 unfolding head_at head_of_script
 head-parts s b0 b1 b2 rest g t h = rw (g, t, h) refl
 
--- the bytes of lines
-abbrev rows : List (List ℕ) → List ℕ
-rows texts = flat_map line texts
-
 pub head-again : (s : Script) → IsScript s → head_at (rows (script_lines s)) ≡ Ok (head_of_script s, rows (order_texts s.order ++ map call_text s.calls))
 head-again s is =
     let others = order_texts s.order ++ map call_text s.calls in
@@ -156,31 +153,10 @@ call-again g hosts call n after t le lt h =
     let same : kept_call call ≡ call = ap (λ (a : Action). record { host = call.host; action = a }) k.3 in
     line-again call_of call_text kept_call IsFormedCall call_rule (is_ranged_call g hosts) (is_sized_call g) n call after formed ranged k.2 ∙ ap (λ (c : Call). Ok (c, after)) same
 
--- a line has at least its end
-line-filled : (text after : List ℕ) → length after < length (line text ++ after)
-line-filled text after = omega (arith, length-append (line text) after, length-append text (10 ∷ []))
-
-calls-step : (g : Geometry) (hosts turns n : ℕ) (bytes : List ℕ) (call : Call) (after : List ℕ) (calls : List Call) → 0 < length bytes → call_at g hosts n bytes ≡ Ok (call, after) → calls_at g hosts turns (n + 1) after ≡ Ok calls
-    → calls_at g hosts (suc turns) n bytes ≡ Ok (call ∷ calls)
-unfolding calls_at
-calls-step g hosts turns n [] call after calls lt e f = let no : ⊥ = omega arith in absurd no
-calls-step g hosts turns n (b ∷ bytes) call after calls lt e f = rw (e, f) refl
-
-calls-none : (g : Geometry) (hosts turns n : ℕ) → calls_at g hosts turns n [] ≡ Ok []
-unfolding calls_at
-calls-none g hosts zero n = refl
-calls-none g hosts (suc turns) n = refl
-
 pub calls-again : (g : Geometry) (hosts : ℕ) (calls : List Call) (turns n : ℕ) → g.targets ≤ 32 → hosts ≤ 26 → AllByRecursion (λ call. (call.host < hosts) × IsAction g call.action) calls → length (rows (map call_text calls)) ≤ turns
     → calls_at g hosts turns n (rows (map call_text calls)) ≡ Ok calls
-calls-again g hosts [] turns n t le all h = calls-none g hosts turns n
-calls-again g hosts (call ∷ calls) zero n t le all h =
-    let f = line-filled (call_text call) (rows (map call_text calls)) in
-    let no : ⊥ = omega (arith, f, h) in absurd no
-calls-again g hosts (call ∷ calls) (suc turns) n t le all h =
-    let after = rows (map call_text calls) in
-    let f = line-filled (call_text call) after in
-    calls-step g hosts turns n (line (call_text call) ++ after) call after calls (omega (arith, f)) (call-again g hosts call n after t le all.0.0 all.0.1) (calls-again g hosts calls turns (n + 1) t le all.1 (omega (arith, f, h)))
+calls-again g hosts calls turns n t le all h =
+    each-again (call_at g hosts) call_text (λ call. (call.host < hosts) × IsAction g call.action) (λ n call after is. call-again g hosts call n after t le is.0 is.1) calls turns n all h
 
 -- ---- the first turns
 

@@ -1,5 +1,5 @@
 -- The rule of call lines.
-use Rattle.std.proofs.Common.{◌≡◌, ℕ, ◌+◌, ◌-◌, ◌<◌, ◌≤◌, ◌&&◌, ◌==◌, nat_le, cond, Bool, true, false, List, [], ◌∷◌, ◌++◌, length, Option, Some, None, refl, sym, ap, subst, ◌∙◌, arith}
+use Rattle.std.proofs.Common.{◌≡◌, ℕ, ◌+◌, ◌-◌, ◌<◌, ◌≤◌, ◌&&◌, ◌==◌, nat_le, cond, Bool, true, false, List, [], ◌∷◌, ◌++◌, Option, Some, None, refl, sym, ap, subst, ◌∙◌, arith}
 use Rattle.std.specs.Prelude.{codes}
 use Rattle.std.proofs.lemmas.Bool.Decides.{nat_tests}
 use Rattle.std.proofs.lemmas.Option.{same_Some}
@@ -9,16 +9,17 @@ use Rattle.host_scripts.specs.declared.script.Action.TheVariants.{Read, Write, F
 use Rattle.host_scripts.specs.declared.actions.Operation.{Operation}
 use Rattle.host_scripts.specs.declared.actions.Operation.TheVariants.{Losing, Resetting, Dropping, Replacing, Rebuilding}
 use Rattle.text_fields.specs.Spelling.{AreBytes, numeral, hex, hex_or_dash}
-use Rattle.host_scripts.specs.Scripts.{letter, action_text, call_text}
-use Rattle.text_fields.specs.Reading.{◌>>=◌, cut_at, stripped, filled_of, data_of, one_byte_of}
-use Rattle.host_scripts.specs.Loose.{numeral_of, exact_of, is_letter, addressed_of, two_of, read_of, write_of, fill_of, raw_of, on_target, target_of, after_of, operation_at, operator_of, else_of, action_of, called, call_of}
+use Rattle.host_scripts.specs.Scripts.{letter, action_text, call_text, IsRaw}
+use Rattle.text_fields.specs.Reading.{◌>>=◌, cut_at, stripped, data_of, one_byte_of}
+use Rattle.host_scripts.specs.Loose.{numeral_of, exact_of, is_letter, addressed_of, two_of, read_of, write_of, fill_of, raw_parts_of, raw_of, on_target, target_of, after_of, operation_at, operator_of, else_of, action_of, called, call_of}
 use Rattle.host_scripts.specs.Refusals.{IsFormedAction, IsFormedCall}
 use Rattle.text_fields.proofs.Cuts.{bind-some, lacks-append, cut-takes, cut-again, stripped-takes, stripped-again}
 use Rattle.text_fields.specs.Laws.{lacks}
 use Rattle.text_fields.proofs.NumeralLaws.{numeral-lacks}
-use Rattle.text_fields.proofs.HexLaws.{hex-lacks, data-takes, data-again, filled-takes, filled-again, one-byte-takes, one-byte-again}
+use Rattle.text_fields.proofs.HexLaws.{hex-lacks, data-takes, data-again, one-byte-takes, one-byte-again}
 use Rattle.host_scripts.proofs.Rules.{Says, IsRule}
-use Rattle.host_scripts.proofs.Texts.{cap, numeral-takes, numeral-again, spaced_same, exact-takes}
+use Rattle.host_scripts.proofs.RawTexts.{dash-lacks, raw-parts-takes, raw-parts-again, raw-clean}
+use Rattle.host_scripts.proofs.Texts.{cap, numeral-takes, numeral-again, exact-takes}
 
 -- ---- actions
 
@@ -108,13 +109,9 @@ fill-takes text a e =
 raw-takes : (text : List ℕ) (a : Action) → raw_of text ≡ Some a → SaysAction (codes "cdb ") text a
 unfolding raw_of
 raw-takes text a e =
-    let x = bind-some (cut_at 32 text) (λ cut. filled_of cut.0 >>= λ cdb. data_of cut.1 >>= λ bytes. Some (Raw cdb bytes)) a e in
-    let y = bind-some (filled_of x.0.0) (λ cdb. data_of x.0.1 >>= λ bytes. Some (Raw cdb bytes)) a x.2 in
-    let z = bind-some (data_of x.0.1) (λ bytes. Some (Raw y.0 bytes)) a y.2 in
-    let c = filled-takes x.0.0 y.0 y.1 in
-    let d = data-takes x.0.1 z.0 z.1 in
-    let all : text ≡ hex y.0 ++ 32 ∷ hex_or_dash z.0 = cut-takes 32 text x.0.0 x.0.1 x.1 ∙ spaced_same x.0.0 x.0.1 (hex y.0) (hex_or_dash z.0) c.0 d.0 in
-    record { word = Raw y.0 z.0; spelt = ap (λ (t : List ℕ). codes "cdb " ++ t) all; formed = (c.2, c.1, d.1); value = sym (same_Some (Raw y.0 z.0) a z.2) }
+    let p = bind-some (raw_parts_of text) (λ parts. Some (Raw parts.0 parts.1)) a e in
+    let said = raw-parts-takes text p.0 p.1 in
+    record { word = Raw p.0.0 p.0.1; spelt = said.0; formed = said.1; value = sym (same_Some (Raw p.0.0 p.0.1) a p.2) }
 
 -- the word of an operation
 abbrev word_of : Operation → List ℕ
@@ -216,9 +213,9 @@ fill-again : (lba count byte : ℕ) → byte < 256 → fill_of (numeral lba ++ 3
 unfolding fill_of
 fill-again lba count byte lt = rw (addressed-again lba (numeral count ++ 32 ∷ hex (byte ∷ [])), addressed-again count (hex (byte ∷ [])), one-byte-again byte lt) refl
 
-raw-again : (cdb bytes : List ℕ) → 1 ≤ length cdb → AreBytes cdb → AreBytes bytes → raw_of (hex cdb ++ 32 ∷ hex_or_dash bytes) ≡ Some (Raw cdb bytes)
+raw-again : (cdb bytes : List ℕ) → IsRaw cdb bytes → raw_of (hex cdb ++ 32 ∷ hex_or_dash bytes) ≡ Some (Raw cdb bytes)
 unfolding raw_of
-raw-again cdb bytes lt h k = rw (cut-again 32 (hex cdb) (hex_or_dash bytes) (hex-lacks 32 cdb (omega arith) h), filled-again cdb h lt, data-again bytes k) refl
+raw-again cdb bytes h = rw (raw-parts-again cdb bytes h) refl
 
 target-again : (operation : Operation) (n : ℕ) → target_of operation (numeral n) ≡ Some (on_target operation (cap n))
 unfolding target_of
@@ -274,7 +271,7 @@ action-again (Fill lba count byte) f =
 action-again (Raw cdb bytes) f =
     let rest = hex cdb ++ 32 ∷ hex_or_dash bytes in
     let no = not-raw rest in
-    rw (no.0, no.1, no.2, stripped-again (codes "cdb ") rest) (raw-again cdb bytes f.0 f.1 f.2)
+    rw (no.0, no.1, no.2, stripped-again (codes "cdb ") rest) (raw-again cdb bytes f)
 action-again (Lose target) f = operator-again Losing target
 action-again (Reset target) f = operator-again Resetting target
 action-again (DropNext target) f = operator-again Dropping target
@@ -284,10 +281,6 @@ action-again Resync f = resync-again
 
 -- ---- no action has an end of line
 
-dash-lacks : (bytes : List ℕ) → AreBytes bytes → lacks 10 (hex_or_dash bytes) ≡ true
-dash-lacks [] h = refl
-dash-lacks (b ∷ bytes) h = hex-lacks 10 (b ∷ bytes) (omega arith) h
-
 spaced : (n : ℕ) (rest : List ℕ) → lacks 10 rest ≡ true → lacks 10 (numeral n ++ 32 ∷ rest) ≡ true
 spaced n rest h = lacks-append 10 (numeral n) (32 ∷ rest) (numeral-lacks 10 n (omega arith)) h
 
@@ -295,7 +288,7 @@ action-clean : (a : Action) → IsFormedAction a → lacks 10 (action_text a) �
 action-clean (Read lba count) f = lacks-append 10 (codes "read ") (numeral lba ++ 32 ∷ numeral count) refl (spaced lba (numeral count) (numeral-lacks 10 count (omega arith)))
 action-clean (Write lba bytes) f = lacks-append 10 (codes "write ") (numeral lba ++ 32 ∷ hex_or_dash bytes) refl (spaced lba (hex_or_dash bytes) (dash-lacks bytes f))
 action-clean (Fill lba count byte) f = lacks-append 10 (codes "fill ") (numeral lba ++ 32 ∷ (numeral count ++ 32 ∷ hex (byte ∷ []))) refl (spaced lba (numeral count ++ 32 ∷ hex (byte ∷ [])) (spaced count (hex (byte ∷ [])) (hex-lacks 10 (byte ∷ []) (omega arith) (f, tt))))
-action-clean (Raw cdb bytes) f = lacks-append 10 (codes "cdb ") (hex cdb ++ 32 ∷ hex_or_dash bytes) refl (lacks-append 10 (hex cdb) (32 ∷ hex_or_dash bytes) (hex-lacks 10 cdb (omega arith) f.1) (dash-lacks bytes f.2))
+action-clean (Raw cdb bytes) f = raw-clean cdb bytes f
 action-clean (Lose target) f = lacks-append 10 (codes "lose ") (numeral target) refl (numeral-lacks 10 target (omega arith))
 action-clean (Reset target) f = lacks-append 10 (codes "reset ") (numeral target) refl (numeral-lacks 10 target (omega arith))
 action-clean (DropNext target) f = lacks-append 10 (codes "drop ") (numeral target) refl (numeral-lacks 10 target (omega arith))

@@ -1,11 +1,10 @@
 -- The line of the first turns and the call lines: what was read is spelt so, or the first of them that is refused.
-use Rattle.std.proofs.Common.{◌≡◌, ℕ, zero, suc, ◌+◌, ◌*◌, ◌%◌, ◌<◌, ◌≤◌, ◌&&◌, ◌==◌, nat_lt, nat_le, Bool, true, false, List, [], ◌∷◌, ◌++◌, length, map, get_or, drop, Option, Some, None, refl, sym, ap, subst, ◌∙◌, append_assoc, length-append, arith}
+use Rattle.std.proofs.Common.{◌≡◌, ℕ, zero, ◌+◌, ◌*◌, ◌%◌, ◌<◌, ◌≤◌, ◌&&◌, ◌==◌, nat_lt, nat_le, Bool, true, false, List, [], ◌∷◌, ◌++◌, length, map, get_or, drop, Option, Some, None, refl, sym, ap, subst, ◌∙◌, append_assoc, length-append, arith}
 use Rattle.std.specs.Prelude.{codes}
 use Rattle.std.specs.List.{flat_map, list_all, AllByRecursion}
 use Rattle.std.proofs.lemmas.Bool.{le-leb, lt-ltb}
 use Rattle.std.proofs.lemmas.Bool.Decides.{nat_tests}
 use Rattle.std.proofs.lemmas.List.{append-nil}
-use Rattle.std.proofs.lemmas.Grind.{flat_map-append}
 use Rattle.std.proofs.lemmas.Option.{none-some, same_Some}
 use Rattle.stripe_layout.specs.declared.geometry.Geometry.{Geometry}
 use Rattle.host_scripts.specs.declared.script.Script.{Script}
@@ -18,14 +17,16 @@ use Rattle.host_scripts.specs.Scripts.{letter, call_text, shape_texts, order_tex
 use Rattle.text_fields.specs.Reading.{stripped}
 use Rattle.host_scripts.specs.Loose.{order_of, call_of}
 use Rattle.host_scripts.specs.Reading.{Head, turns_line, any, line_at, are_turns, where_given, order_at, is_ranged, is_sized, is_ranged_call, is_sized_call, call_at, calls_at}
-use Rattle.host_scripts.specs.Refusals.{IsFormedAction, IsFormedCall, IsFormed, IsRangedAction, IsRangedCall, IsRanged, Begins, IsCause}
-use Rattle.host_scripts.proofs.Outcomes.{Outcome, then}
+use Rattle.host_scripts.specs.FirstRefusals.{Begins, IsCause}
+use Rattle.host_scripts.specs.Refusals.{IsFormedAction, IsFormedCall, IsFormed, IsRangedAction, IsRangedCall, IsRanged, script_grammar}
+use Rattle.host_scripts.proofs.Outcomes.{Outcome}
 use Rattle.text_fields.proofs.Cuts.{stripped-again}
 use Rattle.host_scripts.proofs.Rules.{LineBad}
 use Rattle.host_scripts.proofs.Texts.{cap, order_rule}
 use Rattle.host_scripts.proofs.CallTexts.{kept_action, kept_call, call_rule}
 use Rattle.host_scripts.proofs.NumberLines.{cap-small}
 use Rattle.host_scripts.proofs.Again.{kept-ranged}
+use Rattle.host_scripts.proofs.EachLine.{each-outcome, item-after, map-append, all-append, shorter-by}
 use Rattle.host_scripts.proofs.ShapeTexts.{same-number, same-shape, shape-count}
 use Rattle.host_scripts.proofs.ShapeScripts.{behind_shape}
 use Rattle.host_scripts.proofs.Places.{Near, IsPlace, Spelled, Grown, placed, outcome_map, form-action, regroup, ranged-formed, script-ranged, same-line}
@@ -130,10 +131,6 @@ so-far h order calls is = record {
 abbrev pub front : Head → List ℕ → List (List ℕ)
 front h order = script_lines (whole h order [])
 
-map-append : (xs ys : List Call) → map call_text (xs ++ ys) ≡ map call_text xs ++ map call_text ys
-map-append [] ys = refl
-map-append (x ∷ xs) ys = ap (λ (ts : List (List ℕ)). call_text x ∷ ts) (map-append xs ys)
-
 -- the lines of a script are its front and those of its calls
 pub lines-are : (h : Head) (order : List ℕ) (calls : List Call) → script_lines (whole h order calls) ≡ front h order ++ map call_text calls
 lines-are h order calls =
@@ -146,7 +143,7 @@ lines-are h order calls =
 
 lines-more : (h : Head) (order : List ℕ) (calls more : List Call) → script_lines (whole h order (calls ++ more)) ≡ script_lines (whole h order calls) ++ map call_text more
 lines-more h order calls more =
-    lines-are h order (calls ++ more) ∙ ap (λ (ts : List (List ℕ)). front h order ++ ts) (map-append calls more)
+    lines-are h order (calls ++ more) ∙ ap (λ (ts : List (List ℕ)). front h order ++ ts) (map-append call_text calls more)
     ∙ sym (append_assoc (front h order) (map call_text calls) (map call_text more)) ∙ ap (λ (ts : List (List ℕ)). ts ++ map call_text more) (sym (lines-are h order calls))
 
 -- the lines behind the header
@@ -236,15 +233,15 @@ order-here [] (call ∷ calls) text more after rest found all f e split begins =
     let rest-is : rest ≡ call_text call ++ (10 ∷ after) = split ∙ ap (λ (t : List ℕ). line t ++ after) (sym same) ∙ append_assoc (call_text call) (10 ∷ []) after in
     absurd (none-some found (sym (ap (stripped (codes "order ")) rest-is ∙ call-bare call (10 ∷ after) f.0.0) ∙ begins))
 
-head-begins : (h : Head) → IsHead h → Begins IsScript (head_texts h)
-head-begins h is = record { script = whole h [] []; kind = starts h is; more = []; lines = sym (append-nil (head_texts h)) }
+head-begins : (h : Head) → IsHead h → Begins script_grammar IsScript (head_texts h)
+head-begins h is = record { value = whole h [] []; kind = starts h is; more = []; lines = sym (append-nil (head_texts h)) }
 
 order-split : (h : Head) (hs : List ℕ) → 1 ≤ length hs → head_texts h ++ order_line hs ∷ [] ≡ front h hs
 order-split h [] lt = let no : ⊥ = omega arith in absurd no
 order-split h (t ∷ hs) lt = append_assoc (shape_texts h.version h.geometry) (start_of h) (order_line (t ∷ hs) ∷ [])
 
-order-formed : (h : Head) → IsHead h → (hs : List ℕ) → AreLetters hs → Begins IsFormed (head_texts h ++ order_line hs ∷ [])
-order-formed h is hs f = record { script = whole h hs []; kind = record { version = is.shape.version_is; maxima = is.maxima.len; order = f.1; calls = tt }; more = []; lines = sym (order-split h hs f.0) ∙ sym (append-nil (head_texts h ++ order_line hs ∷ [])) }
+order-formed : (h : Head) → IsHead h → (hs : List ℕ) → AreLetters hs → Begins script_grammar IsFormed (head_texts h ++ order_line hs ∷ [])
+order-formed h is hs f = record { value = whole h hs []; kind = record { version = is.shape.version_is; maxima = is.maxima.len; order = f.1; calls = tt }; more = []; lines = sym (order-split h hs f.0) ∙ sym (append-nil (head_texts h ++ order_line hs ∷ [])) }
 
 script-turns : (order : List ℕ) (calls : List Call) (hs : List ℕ) (more : List (List ℕ)) → 1 ≤ length hs → AllByRecursion (λ h. h < 26) order → AllByRecursion IsFormedCall calls → AreLetters hs → order_texts order ++ map call_text calls ≡ order_line hs ∷ more → order ≡ hs
 script-turns (o ∷ order) calls hs more lt all f letters e =
@@ -297,20 +294,6 @@ order-outcome bytes rest h is e = order-by bytes rest h is e (stripped (codes "o
 
 -- ---- the call lines
 
--- where the bytes don't go on with `order `, a script in form has a call there
-call-after : (asked : List Call) (done : List Call) (text : List ℕ) (more : List (List ℕ)) → AllByRecursion IsFormedCall asked → map call_text asked ≡ map call_text done ++ text ∷ more → Spelled call_text IsFormedCall text
-call-after [] [] text more f e = let no : ⊥ = omega (arith, ap (λ (xs : List (List ℕ)). length xs) e) in absurd no
-call-after [] (d ∷ done) text more f e = let no : ⊥ = omega (arith, ap (λ (xs : List (List ℕ)). length xs) e) in absurd no
-call-after (call ∷ asked) [] text more f e = record { word = call; spelt = sym (ap (λ (xs : List (List ℕ)). get_or xs 0 []) e); formed = f.0 }
-call-after (call ∷ asked) (d ∷ done) text more f e = call-after asked done text more f.1 (ap (λ (xs : List (List ℕ)). drop 1 xs) e)
-
--- a text at the same place
-call-at-place : (P : Call → Type 0) (asked : List Call) (done : List Call) (w : Call) (more : List (List ℕ)) → AllByRecursion P asked → map call_text asked ≡ map call_text done ++ call_text w ∷ more → (c : Call) × P c × (call_text c ≡ call_text w)
-call-at-place P [] [] w more f e = let no : ⊥ = omega (arith, ap (λ (xs : List (List ℕ)). length xs) e) in absurd no
-call-at-place P [] (d ∷ done) w more f e = let no : ⊥ = omega (arith, ap (λ (xs : List (List ℕ)). length xs) e) in absurd no
-call-at-place P (call ∷ asked) [] w more f e = (call, f.0, ap (λ (xs : List (List ℕ)). get_or xs 0 []) e)
-call-at-place P (call ∷ asked) (d ∷ done) w more f e = call-at-place P asked done w more f.1 (ap (λ (xs : List (List ℕ)). drop 1 xs) e)
-
 -- the calls of a script that has the turns and calls so far as its first lines
 calls-behind : (order : List ℕ) (asked : List Call) (turns : List ℕ) (done : List Call) (text tail : List ℕ) (more : List (List ℕ)) → AllByRecursion IsFormedCall asked → AllByRecursion IsFormedCall done
     → (turns ≡ [] → done ≡ [] → stripped (codes "order ") (text ++ tail) ≡ None) → order_texts order ++ map call_text asked ≡ (order_texts turns ++ map call_text done) ++ text ∷ more → map call_text asked ≡ map call_text done ++ text ∷ more
@@ -330,10 +313,6 @@ calls-behind [] (call ∷ asked) (t ∷ turns) done text tail more f g bare e =
     let no : ⊥ = none-some (map letter (t ∷ turns) ++ []) (sym (call-bare call [] f.0.0) ∙ ap (λ (t : List ℕ). stripped (codes "order ") (t ++ [])) same ∙ order-begins (map letter (t ∷ turns)) []) in
     absurd no
 
-all-append : (P : Call → Type 0) (xs : List Call) (y : Call) → AllByRecursion P xs → P y → AllByRecursion P (xs ++ y ∷ [])
-all-append P [] y h p = (p, tt)
-all-append P (x ∷ xs) y h p = (h.0, all-append P xs y h.1 p)
-
 formed-so-far : (h : Head) (order : List ℕ) (calls : List Call) → IsSoFar h order calls → IsFormed (whole h order calls)
 formed-so-far h order calls is = ranged-formed (whole h order calls) (script-ranged (whole h order calls) (so-far h order calls is))
 
@@ -351,7 +330,7 @@ call-here : (h : Head) (order : List ℕ) (calls : List Call) (rest : List ℕ) 
 call-here h order calls rest is bare s text more after f e split =
     let rest-is : text ++ 10 ∷ after ≡ rest = sym (split ∙ append_assoc text (10 ∷ []) after) in
     let tail = calls-behind s.order s.calls order calls text (10 ∷ after) more f.calls (formed-so-far h order calls is).calls (λ o d. ap (stripped (codes "order ")) rest-is ∙ bare o d) (calls-same h is.head order calls s (text ∷ more) f e).lines in
-    call-after s.calls calls text more f.calls tail
+    item-after call_text IsFormedCall s.calls calls text more f.calls tail
 
 same-kept : (a b : Call) → IsFormedCall a → IsFormedCall b → call_text a ≡ call_text b → kept_call a ≡ kept_call b
 same-kept a b f g e = same_Some (kept_call a) (kept_call b) (sym (call_rule.again a f) ∙ ap call_of e ∙ call_rule.again b g)
@@ -361,7 +340,8 @@ call-there : (P : Call → Type 0) (h : Head) (order : List ℕ) (calls : List C
     → script_lines s ≡ script_lines (whole h order calls) ++ call_text w ∷ more → (c : Call) × P c × (call_text c ≡ call_text w)
 call-there P h order calls is s w more f all g e =
     let tail = calls-behind s.order s.calls order calls (call_text w) [] more f.calls (formed-so-far h order calls is).calls (λ o d. call-bare w [] g.0) (calls-same h is.head order calls s (call_text w ∷ more) f e).lines in
-    call-at-place P s.calls calls w more all tail
+    let a = item-after call_text P s.calls calls (call_text w) more all tail in
+    (a.word, a.formed, sym a.spelt)
 
 call-fits : (h : Head) (order : List ℕ) (calls : List Call) → IsSoFar h order calls → (s : Script) (w : Call) (more : List (List ℕ)) → IsRanged s → IsFormedCall w → script_lines s ≡ script_lines (whole h order calls) ++ call_text w ∷ more
     → is_ranged_call h.geometry h.hosts (kept_call w) ≡ true
@@ -379,10 +359,10 @@ call-fits h order calls is s w more r g e =
 grown-lines : (h : Head) (order : List ℕ) (calls : List Call) (w : Call) → script_lines (whole h order (calls ++ w ∷ [])) ≡ (script_lines (whole h order calls) ++ call_text w ∷ []) ++ []
 grown-lines h order calls w = lines-more h order calls (w ∷ []) ∙ sym (append-nil (script_lines (whole h order calls) ++ call_text w ∷ []))
 
-call-formed : (h : Head) (order : List ℕ) (calls : List Call) → IsSoFar h order calls → (w : Call) → IsFormedCall w → Begins IsFormed (script_lines (whole h order calls) ++ call_text w ∷ [])
+call-formed : (h : Head) (order : List ℕ) (calls : List Call) → IsSoFar h order calls → (w : Call) → IsFormedCall w → Begins script_grammar IsFormed (script_lines (whole h order calls) ++ call_text w ∷ [])
 call-formed h order calls is w g =
     let f = formed-so-far h order calls is in
-    record { script = whole h order (calls ++ w ∷ []); kind = record { version = f.version; maxima = f.maxima; order = f.order; calls = all-append IsFormedCall calls w f.calls g }; more = []; lines = grown-lines h order calls w }
+    record { value = whole h order (calls ++ w ∷ []); kind = record { version = f.version; maxima = f.maxima; order = f.order; calls = all-append IsFormedCall calls w f.calls g }; more = []; lines = grown-lines h order calls w }
 
 -- a call whose numbers are in range
 call-is-ranged : (h : Head) → IsHead h → (w : Call) → IsFormedCall w → is_ranged_call h.geometry h.hosts (kept_call w) ≡ true → (w.host < h.hosts) × IsRangedAction h.geometry w.action × (kept_call w ≡ w)
@@ -391,12 +371,12 @@ call-is-ranged h is w g e =
     let a = ranged-takes h.geometry w.action is.shape.array.most_targets g.1 p.1 in
     (lt-from w.host h.hosts p.0, a.0, ap (λ (x : Action). record { host = w.host; action = x }) a.1)
 
-call-ranged : (h : Head) (order : List ℕ) (calls : List Call) → IsSoFar h order calls → (w : Call) → (w.host < h.hosts) × IsRangedAction h.geometry w.action → Begins IsRanged (script_lines (whole h order calls) ++ call_text w ∷ [])
+call-ranged : (h : Head) (order : List ℕ) (calls : List Call) → IsSoFar h order calls → (w : Call) → (w.host < h.hosts) × IsRangedAction h.geometry w.action → Begins script_grammar IsRanged (script_lines (whole h order calls) ++ call_text w ∷ [])
 call-ranged h order calls is w g =
     let s = whole h order calls in
     let r = script-ranged s (so-far h order calls is) in
     record {
-      script = whole h order (calls ++ w ∷ []);
+      value = whole h order (calls ++ w ∷ []);
       kind = record {
         version = r.version;
         geometry = r.geometry;
@@ -420,14 +400,14 @@ call-ranged h order calls is w g =
 
 -- the bytes of a write that isn't whole blocks
 call-size : (h : Head) (order : List ℕ) (calls : List Call) (rest : List ℕ) → IsSoFar h order calls → Bare order calls rest
-    → LineBad call_text kept_call IsFormedCall (is_ranged_call h.geometry h.hosts) (is_sized_call h.geometry) rest Size → IsCause (script_lines (whole h order calls)) rest Size
+    → LineBad call_text kept_call IsFormedCall (is_ranged_call h.geometry h.hosts) (is_sized_call h.geometry) rest Size → IsCause script_grammar (script_lines (whole h order calls)) rest Size
 call-size h order calls rest is bare bad =
     let w = bad.word in
     let p = call-is-ranged h is.head w bad.formed bad.holds.0 in
     let texts = script_lines (whole h order calls) in (
       record { text = call_text w; after = bad.after; split = bad.split; begins = call-ranged h order calls is w (p.0, p.1) },
       λ g.
-          let s = g.begins.script in
+          let s = g.begins.value in
           let f = ranged-formed s (script-ranged s g.begins.kind) in
           let lines = g.begins.lines ∙ regroup texts g.begins.more g.text in
           let a = call-here h order calls rest is bare s g.text g.begins.more g.after f lines g.split in
@@ -442,16 +422,6 @@ call-size h order calls rest is bare bad =
           bad.holds.1 (subst (λ (x : Call). is_sized_call h.geometry x ≡ true) kept here),
     )
 
-shorter-by : (bytes : List ℕ) (texts : List (List ℕ)) (text rest after : List ℕ) → bytes ≡ flat_map line texts ++ rest → bytes ≡ flat_map line (texts ++ text ∷ []) ++ after → length after < length rest
-shorter-by bytes texts text rest after e f =
-    let joined : flat_map line (texts ++ text ∷ []) ≡ flat_map line texts ++ (line text ++ []) = flat_map-append line texts (text ∷ []) in
-    let a = length-append (flat_map line texts) rest in
-    let b = length-append (flat_map line (texts ++ text ∷ [])) after in
-    let c = length-append (flat_map line texts) (line text ++ []) in
-    let d = length-append (line text) [] in
-    let g = length-append text (10 ∷ []) in
-    omega (arith, a, b, c, d, g, ap (λ (xs : List ℕ). length xs) joined, ap (λ (xs : List ℕ). length xs) (sym e ∙ f))
-
 call-outcome : (bytes rest : List ℕ) (h : Head) (order : List ℕ) (calls : List Call) (n : ℕ) → IsSoFar h order calls → bytes ≡ flat_map line (script_lines (whole h order calls)) ++ rest → n ≡ length (script_lines (whole h order calls)) + 1 → Bare order calls rest
     → Outcome (CallRead bytes h order calls rest) (Near bytes) (call_at h.geometry h.hosts n rest)
 unfolding call_at
@@ -460,7 +430,7 @@ call-outcome bytes rest h order calls n is e number bare =
     let ranged = is_ranged_call h.geometry h.hosts in
     let sized = is_sized_call h.geometry in
     let place : IsPlace call_text kept_call IsFormedCall ranged texts rest = record { here = call-here h order calls rest is bare; formed = call-formed h order calls is; fits = call-fits h order calls is } in
-    let begins : Begins IsScript texts = record { script = whole h order calls; kind = so-far h order calls is; more = []; lines = sym (append-nil texts) } in
+    let begins : Begins script_grammar IsScript texts = record { value = whole h order calls; kind = so-far h order calls is; more = []; lines = sym (append-nil texts) } in
     outcome_map (Grown call_text kept_call IsFormedCall ranged sized bytes texts) (CallRead bytes h order calls rest) (Near bytes) (Near bytes) (line_at n ranged sized call_of rest)
     (placed call_of call_text kept_call IsFormedCall call_rule ranged sized bytes texts rest n e number begins place (call-size h order calls rest is bare))
     (λ x r.
@@ -492,18 +462,23 @@ next-number h order calls c n e =
 not-empty : (calls : List Call) (c : Call) → calls ++ c ∷ [] ≡ [] → ⊥
 not-empty calls c e = let b = length-append calls (c ∷ []) in omega (arith, b, ap (λ (xs : List Call). length xs) e)
 
+-- what is known behind some calls
+record CallState (bytes : List ℕ) (h : Head) (order : List ℕ) (calls : List Call) (n : ℕ) (rest : List ℕ) : Type 0 where
+  is : IsSoFar h order calls
+  split : bytes ≡ flat_map line (script_lines (whole h order calls)) ++ rest
+  number : n ≡ length (script_lines (whole h order calls)) + 1
+  bare : Bare order calls rest
+
+next-call : (bytes : List ℕ) (h : Head) (order : List ℕ) (calls : List Call) (n : ℕ) (rest : List ℕ) → CallState bytes h order calls n rest
+    → Outcome (λ x. CallState bytes h order (calls ++ x.0 ∷ []) (n + 1) x.1 × (length x.1 < length rest)) (Near bytes) (call_at h.geometry h.hosts n rest)
+next-call bytes h order calls n rest s =
+    outcome_map (CallRead bytes h order calls rest) (λ x. CallState bytes h order (calls ++ x.0 ∷ []) (n + 1) x.1 × (length x.1 < length rest)) (Near bytes) (Near bytes) (call_at h.geometry h.hosts n rest)
+    (call-outcome bytes rest h order calls n s.is s.split s.number s.bare)
+    (λ x g. (record { is = g.is; split = g.split; number = next-number h order calls x.0 n s.number; bare = λ o d. absurd (not-empty calls x.0 d) }, g.shorter)) (λ m cause bad. bad)
+
 pub calls-outcome : (bytes : List ℕ) (h : Head) (order : List ℕ) (turns : ℕ) (calls : List Call) (n : ℕ) (rest : List ℕ) → length rest ≤ turns → IsSoFar h order calls → bytes ≡ flat_map line (script_lines (whole h order calls)) ++ rest
     → n ≡ length (script_lines (whole h order calls)) + 1 → Bare order calls rest → Outcome (CallsRead bytes h order calls) (Near bytes) (calls_at h.geometry h.hosts turns n rest)
-unfolding calls_at
-calls-outcome bytes h order turns calls n [] le is e number bare =
-    let same : calls ≡ calls ++ [] = sym (append-nil calls) in
-    let split : bytes ≡ flat_map line (script_lines (whole h order calls)) = e ∙ append-nil (flat_map line (script_lines (whole h order calls))) in
-    record { is = subst (λ (cs : List Call). IsSoFar h order cs) same is; split = subst (λ (cs : List Call). bytes ≡ flat_map line (script_lines (whole h order cs))) same split }
-calls-outcome bytes h order zero calls n (b ∷ rest) le is e number bare = let no : ⊥ = omega arith in absurd no
-calls-outcome bytes h order (suc turns) calls n (b ∷ rest) le is e number bare =
-    then (CallRead bytes h order calls (b ∷ rest)) (CallsRead bytes h order calls) (Near bytes) (call_at h.geometry h.hosts n (b ∷ rest)) _ (call-outcome bytes (b ∷ rest) h order calls n is e number bare) (λ x g.
-    then (CallsRead bytes h order (calls ++ x.0 ∷ [])) (CallsRead bytes h order calls) (Near bytes) (calls_at h.geometry h.hosts turns (n + 1) x.1) _
-    (calls-outcome bytes h order turns (calls ++ x.0 ∷ []) (n + 1) x.1 (omega (arith, g.shorter)) g.is g.split (next-number h order calls x.0 n number) (λ o d. absurd (not-empty calls x.0 d)))
-    (λ more r.
-    let same : (calls ++ x.0 ∷ []) ++ more ≡ calls ++ x.0 ∷ more = append_assoc calls (x.0 ∷ []) more in
-    record { is = subst (λ (cs : List Call). IsSoFar h order cs) same r.is; split = subst (λ (cs : List Call). bytes ≡ flat_map line (script_lines (whole h order cs))) same r.split }))
+calls-outcome bytes h order turns calls n rest le is e number bare =
+    outcome_map (λ more. (m : ℕ) × CallState bytes h order (calls ++ more) m []) (CallsRead bytes h order calls) (Near bytes) (Near bytes) (calls_at h.geometry h.hosts turns n rest)
+    (each-outcome (call_at h.geometry h.hosts) (Near bytes) (CallState bytes h order) (next-call bytes h order) turns calls n rest le (record { is = is; split = e; number = number; bare = bare }))
+    (λ more s. record { is = s.1.is; split = s.1.split ∙ append-nil (flat_map line (script_lines (whole h order (calls ++ more)))) }) (λ m cause bad. bad)

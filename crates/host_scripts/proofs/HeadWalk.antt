@@ -17,7 +17,8 @@ use Rattle.text_fields.specs.Spelling.{line, numeral}
 use Rattle.host_scripts.specs.Scripts.{mode_text, shape_texts, start_texts, script_lines, IsVersion, IsMaximum, IsScript}
 use Rattle.host_scripts.specs.Loose.{maxima_of, mode_of}
 use Rattle.host_scripts.specs.Reading.{any, is_maximum, are_maxima, line_at, number_at, shape_at, buffer_line, targets_at, hosts_at, Head, head_at}
-use Rattle.host_scripts.specs.Refusals.{IsFormed, IsRanged, Begins}
+use Rattle.host_scripts.specs.FirstRefusals.{Begins}
+use Rattle.host_scripts.specs.Refusals.{IsFormed, IsRanged, script_grammar}
 use Rattle.host_scripts.proofs.Outcomes.{Outcome, then}
 use Rattle.host_scripts.proofs.Texts.{cap, kept_maxima, maxima_line, maxima_rule, mode_rule}
 use Rattle.host_scripts.proofs.Again.{maxima-true, three-of}
@@ -77,18 +78,18 @@ start_of h = start_texts (whole h [] [])
 abbrev so_far : ℕ → Geometry → List (List ℕ) → List (List ℕ)
 so_far v g xs = shape_texts v g ++ xs
 
-begun : (h : Head) → IsHead h → (n : ℕ) → Begins IsScript (so_far h.version h.geometry (take n (start_of h)))
+begun : (h : Head) → IsHead h → (n : ℕ) → Begins script_grammar IsScript (so_far h.version h.geometry (take n (start_of h)))
 begun h is n =
     let shape = shape_texts h.version h.geometry in
     let lines : script_lines (whole h [] []) ≡ (shape ++ take n (start_of h)) ++ drop n (start_of h) = ap (λ (ts : List (List ℕ)). shape ++ ts) (sym (take-append-drop n (start_of h))) ∙ sym (append_assoc shape (take n (start_of h)) (drop n (start_of h))) in
-    record { script = whole h [] []; kind = starts h is; more = drop n (start_of h); lines = lines }
+    record { value = whole h [] []; kind = starts h is; more = drop n (start_of h); lines = lines }
 
-formed : (h : Head) → IsVersion h.version h.geometry.areas → length h.maxima ≡ 3 → (xs more : List (List ℕ)) (text : List ℕ) → start_of h ≡ xs ++ text ∷ more → Begins IsFormed (so_far h.version h.geometry xs ++ text ∷ [])
+formed : (h : Head) → IsVersion h.version h.geometry.areas → length h.maxima ≡ 3 → (xs more : List (List ℕ)) (text : List ℕ) → start_of h ≡ xs ++ text ∷ more → Begins script_grammar IsFormed (so_far h.version h.geometry xs ++ text ∷ [])
 formed h is len xs more text e =
     let shape = shape_texts h.version h.geometry in
     let lines : script_lines (whole h [] []) ≡ ((shape ++ xs) ++ text ∷ []) ++ more =
     ap (λ (ts : List (List ℕ)). shape ++ ts) e ∙ sym (append_assoc shape xs (text ∷ more)) ∙ sym (append_assoc (shape ++ xs) (text ∷ []) more) in
-    record { script = whole h [] []; kind = record { version = is; maxima = len; order = tt; calls = tt }; more = more; lines = lines }
+    record { value = whole h [] []; kind = record { version = is; maxima = len; order = tt; calls = tt }; more = more; lines = lines }
 
 -- a script that begins with the lines of a shape is of this shape, and these lines stand behind it
 behind : (v : ℕ) (g : Geometry) → IsShape v g → (s : Script) (xs more : List (List ℕ)) (text : List ℕ) → IsFormed s → script_lines s ≡ so_far v g xs ++ text ∷ more → SameShape s.version v s.geometry g (behind_shape s) (xs ++ text ∷ more)
@@ -116,9 +117,9 @@ no-maxima unit = record { len = refl; write_range = omega arith; regenerate_rang
 
 -- a number of a line behind the shape: the header that has it, and what is known of it
 number-behind : (v : ℕ) (g : Geometry) → IsShape v g → (keyword : List ℕ) (least most : ℕ) → lacks 10 keyword ≡ true → most ≤ 4294967295 → (field : Script → ℕ) (bytes rest : List ℕ) (xs : List (List ℕ)) (n : ℕ)
-    → bytes ≡ flat_map line (so_far v g xs) ++ rest → n ≡ buffer_line v g.areas + length xs → Begins IsScript (so_far v g xs)
+    → bytes ≡ flat_map line (so_far v g xs) ++ rest → n ≡ buffer_line v g.areas + length xs → Begins script_grammar IsScript (so_far v g xs)
     → ((s : Script) (ts : List (List ℕ)) (text : List ℕ) → behind_shape s ≡ xs ++ text ∷ ts → keyword ++ numeral (field s) ≡ text)
-    → ((m : ℕ) → Begins IsFormed (so_far v g xs ++ (keyword ++ numeral m) ∷ []))
+    → ((m : ℕ) → Begins script_grammar IsFormed (so_far v g xs ++ (keyword ++ numeral m) ∷ []))
     → ((s : Script) → IsRanged s → s.geometry ≡ g → (least ≤ field s) × (field s ≤ most))
     → Outcome (NumberRead keyword least most bytes (so_far v g xs)) (Near bytes) (number_at n keyword least most rest)
 number-behind v g is keyword least most clean small field bytes rest xs n e number begins here formed fits =

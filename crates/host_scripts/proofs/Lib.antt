@@ -5,7 +5,11 @@ pub mod Rules
 pub mod ShapeTexts
 pub mod Texts
 pub mod NumberLines
+pub mod RawTexts
 pub mod CallTexts
+pub mod LinePlaces
+pub mod EachLine
+pub mod WholeReading
 pub mod AreaTexts
 pub mod AreaLoop
 pub mod ShapeAgain
@@ -17,6 +21,10 @@ pub mod ShapeWalk
 pub mod HeadWalk
 pub mod CallWalk
 pub mod Refused
-pub mod Transfers
 pub mod PrintedText
+pub mod OneFirstRefusal
 pub mod OneRefusal
+pub mod BenchTexts
+pub mod BenchAgain
+pub mod BenchWalk
+pub mod BenchClean

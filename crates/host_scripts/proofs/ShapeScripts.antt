@@ -10,7 +10,8 @@ use Rattle.stripe_layout.proofs.StripeLaws.{most-greatest}
 use Rattle.host_scripts.specs.declared.script.Script.{Script}
 use Rattle.text_fields.specs.Spelling.{numeral}
 use Rattle.host_scripts.specs.Scripts.{version_text, start_texts, order_texts, call_text, script_lines, most_targets, IsVersion, IsScript}
-use Rattle.host_scripts.specs.Refusals.{IsFormed, Begins}
+use Rattle.host_scripts.specs.FirstRefusals.{Begins}
+use Rattle.host_scripts.specs.Refusals.{IsFormed, script_grammar}
 use Rattle.host_scripts.proofs.ShapeTexts.{IsKnown, known, of-one-area, same-version}
 use Rattle.host_scripts.proofs.ShapeAgain.{most-small}
 
@@ -43,11 +44,11 @@ plain-is v g is = record {
   calls = tt;
 }
 
-pub begins-is : (v : ℕ) (g : Geometry) (texts more : List (List ℕ)) → IsShape v g → script_lines (plain v g) ≡ texts ++ more → Begins IsScript texts
-begins-is v g texts more is e = record { script = plain v g; kind = plain-is v g is; more = more; lines = e }
+pub begins-is : (v : ℕ) (g : Geometry) (texts more : List (List ℕ)) → IsShape v g → script_lines (plain v g) ≡ texts ++ more → Begins script_grammar IsScript texts
+begins-is v g texts more is e = record { value = plain v g; kind = plain-is v g is; more = more; lines = e }
 
-pub begins-formed : (v : ℕ) (g : Geometry) (texts more : List (List ℕ)) → IsVersion v g.areas → script_lines (plain v g) ≡ texts ++ more → Begins IsFormed texts
-begins-formed v g texts more is e = record { script = plain v g; kind = record { version = is; maxima = refl; order = tt; calls = tt }; more = more; lines = e }
+pub begins-formed : (v : ℕ) (g : Geometry) (texts more : List (List ℕ)) → IsVersion v g.areas → script_lines (plain v g) ≡ texts ++ more → Begins script_grammar IsFormed texts
+begins-formed v g texts more is e = record { value = plain v g; kind = record { version = is; maxima = refl; order = tt; calls = tt }; more = more; lines = e }
 
 abbrev pub Small : ℕ → Type 0
 Small n = (1 ≤ n) × (n ≤ 4096)

@@ -7,7 +7,8 @@ use Rattle.text_fields.specs.Spelling.{line, numeral}
 use Rattle.host_scripts.specs.Scripts.{version_text, shape_texts, script_lines, most_targets, IsScript}
 use Rattle.host_scripts.specs.Loose.{version_of}
 use Rattle.host_scripts.specs.Reading.{any, line_at, number_at, version_at, version_areas_at, shape_at}
-use Rattle.host_scripts.specs.Refusals.{Begins}
+use Rattle.host_scripts.specs.FirstRefusals.{Begins}
+use Rattle.host_scripts.specs.Refusals.{script_grammar}
 use Rattle.host_scripts.proofs.Outcomes.{Outcome, then}
 use Rattle.host_scripts.proofs.Texts.{version_rule}
 use Rattle.host_scripts.proofs.ShapeTexts.{IsKnown, known, of-one-area}
@@ -27,7 +28,7 @@ unfolding version_at
 version-outcome bytes =
     let kept : ℕ → ℕ = λ w. w in
     let g : Geometry = shaped 3 1 (least ∷ []) in
-    let begins : Begins IsScript [] = begins-is 1 g [] (script_lines (plain 1 g)) (one-shape 1 3 1 1 1 (inl refl) (omega arith) (omega arith) one-small one-small one-small) refl in
+    let begins : Begins script_grammar IsScript [] = begins-is 1 g [] (script_lines (plain 1 g)) (one-shape 1 3 1 1 1 (inl refl) (omega arith) (omega arith) one-small one-small one-small) refl in
     let place : IsPlace version_text kept IsKnown any [] bytes = record {
       here = λ s text more after f e split. record { word = s.version; spelt = sym (at-line 0 s [] more text e); formed = known s.version s.geometry.areas f.version };
       formed = λ w k. begins-formed w g (version_text w ∷ []) (drop 1 (script_lines (plain w g))) (of-one-area w least k) refl;

@@ -2,5 +2,11 @@ pub mod Scripts
 pub mod Loose
 pub mod Reading
 pub mod Heads
+pub mod FirstRefusals
 pub mod Refusals
 pub mod Limits
+pub mod Benches
+pub mod BenchLoose
+pub mod BenchReading
+pub mod BenchRefusals
+pub mod BenchLimits

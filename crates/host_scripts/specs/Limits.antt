@@ -1,9 +1,7 @@
 -- What a script may have only so much of, and the first of these that it has too much of.
-use Rattle.std.specs.Prelude.{ℕ, ◌*◌, ◌/◌, ◌||◌, Bool, true, false, nat_lt, if◌then◌else◌, List, length, min, Option, Some, None}
+use Rattle.std.specs.Prelude.{ℕ, ◌*◌, ◌/◌, Bool, true, false, nat_lt, if◌then◌else◌, List, length, min, Option, Some, None}
 use Rattle.std.specs.List.{sum_by, count_by}
-use Rattle.std.specs.Str.{bytes_eq}
-use Rattle.cdb_fields.specs.Fields.{is_one, number_at}
-use Rattle.sbc_cdbs.specs.Cdbs.{spelling}
+use Rattle.sbc_cdbs.specs.Reading.{decoded}
 use Rattle.sbc_cdbs.specs.declared.commands.Command.{Command}
 use Rattle.sbc_cdbs.specs.declared.commands.Command.TheVariants as commands
 use Rattle.stripe_layout.specs.Layout.{capacity_of, rows_of}
@@ -15,18 +13,7 @@ use Rattle.host_scripts.specs.declared.script.Action.TheVariants.{Read, Write, F
 use Rattle.host_scripts.specs.declared.script.Limit.{Limit}
 use Rattle.host_scripts.specs.declared.script.Limit.TheVariants.{Calls, Blocks, Moved, Media, Passes}
 
--- the READ(10) and the WRITE(10) with the fields of these bytes
-abbrev pub read_of : List ℕ → Command
-read_of cdb = commands.Read (is_one 1 4 cdb) (is_one 1 3 cdb) (number_at 2 4 cdb) (number_at 7 2 cdb)
-
-abbrev pub write_of : List ℕ → Command
-write_of cdb = commands.Write (is_one 1 4 cdb) (is_one 1 3 cdb) (number_at 2 4 cdb) (number_at 7 2 cdb)
-
--- the blocks that a CDB reads or writes: its length, where it is spelt as one of the two
-unfoldable pub transferred : List ℕ → ℕ
-transferred cdb = if bytes_eq cdb (spelling (read_of cdb)) || bytes_eq cdb (spelling (write_of cdb)) then number_at 7 2 cdb else 0
-
--- the blocks that a command of these two moves
+-- the blocks that a READ(10) or a WRITE(10) moves; an array serves no other command of a host
 abbrev pub transferred_by : Command → ℕ
 transferred_by (commands.Read dpo fua lba count) = count
 transferred_by (commands.Write dpo fua lba count) = count
@@ -40,12 +27,17 @@ transferred_by (commands.XdWriteExtended dpo fua disable lba second count addres
 transferred_by (commands.Rebuild dpo fua intdata lba count list) = 0
 transferred_by (commands.Regenerate dpo fua intdata lba count list) = 0
 
+-- the same of a CDB, where it decodes to a command
+abbrev pub transferred : Option Command → ℕ
+transferred (Some command) = transferred_by command
+transferred None = 0
+
 -- how many blocks a call reads or writes
 abbrev pub blocks_of : Geometry → Action → ℕ
 blocks_of g (Read lba count) = count
 blocks_of g (Write lba bytes) = length bytes / g.block
 blocks_of g (Fill lba count byte) = count
-blocks_of g (Raw cdb bytes) = transferred cdb
+blocks_of g (Raw cdb bytes) = transferred (decoded cdb)
 blocks_of g (Lose target) = 0
 blocks_of g (Reset target) = 0
 blocks_of g (DropNext target) = 0

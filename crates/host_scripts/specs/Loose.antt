@@ -115,13 +115,19 @@ fill_of text = do
   byte ← one_byte_of count.1
   Some (Fill address.0 count.0 byte)
 
--- what stands behind `cdb `
-unfoldable pub raw_of : List ℕ → Option Action
-raw_of text = do
+-- a CDB and its bytes, which stand behind `cdb `
+unfoldable pub raw_parts_of : List ℕ → Option (List ℕ × List ℕ)
+raw_parts_of text = do
   cut ← cut_at 32 text
   cdb ← filled_of cut.0
   bytes ← data_of cut.1
-  Some (Raw cdb bytes)
+  Some (cdb, bytes)
+
+-- what stands behind `cdb `
+unfoldable pub raw_of : List ℕ → Option Action
+raw_of text = do
+  parts ← raw_parts_of text
+  Some (Raw parts.0 parts.1)
 
 -- an operation on a target
 abbrev pub on_target : Operation → ℕ → Action

@@ -63,6 +63,15 @@ line_at n ranged sized rule bytes = do
   v ← judged n ranged sized (rule cut.0)
   Ok (v, cut.1)
 
+-- what at most so many lines say, each read by itself, to the last byte
+unfoldable pub each_at : {V : Type 0} → (ℕ → List ℕ → Result (V × List ℕ) Fault) → ℕ → ℕ → List ℕ → Result (List V) Fault
+each_at read turns n [] = Ok []
+each_at read zero n (b ∷ bytes) = Err (n, Form)
+each_at read (suc turns) n (b ∷ bytes) = do
+  first ← read n (b ∷ bytes)
+  others ← each_at read turns (n + 1) first.1
+  Ok (first.0 ∷ others)
+
 -- a number between two others
 abbrev pub within : ℕ → ℕ → ℕ → Bool
 within least most n = nat_le least n && nat_le n most
@@ -217,13 +226,8 @@ unfoldable pub call_at : Geometry → ℕ → ℕ → List ℕ → Result (Call 
 call_at g hosts n bytes = line_at n (is_ranged_call g hosts) (is_sized_call g) call_of bytes
 
 -- the calls of at most so many lines, to the last byte
-unfoldable pub calls_at : Geometry → ℕ → ℕ → ℕ → List ℕ → Result (List Call) Fault
-calls_at g hosts turns n [] = Ok []
-calls_at g hosts zero n (b ∷ bytes) = Err (n, Form)
-calls_at g hosts (suc turns) n (b ∷ bytes) = do
-  first ← call_at g hosts n (b ∷ bytes)
-  others ← calls_at g hosts turns (n + 1) first.1
-  Ok (first.0 ∷ others)
+abbrev pub calls_at : Geometry → ℕ → ℕ → ℕ → List ℕ → Result (List Call) Fault
+calls_at g hosts turns n bytes = each_at (call_at g hosts) turns n bytes
 
 -- the line of the first call, behind that of the turns, where one stands on this line
 abbrev pub first_line : ℕ → List ℕ → ℕ

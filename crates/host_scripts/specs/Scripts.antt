@@ -28,12 +28,16 @@ mode_text Readback = codes "mode readback"
 abbrev pub maxima_text : ℕ → ℕ → ℕ → List ℕ
 maxima_text w g r = codes "maxima " ++ (numeral w ++ 32 ∷ (numeral g ++ 32 ∷ numeral r))
 
+-- a CDB and the bytes sent with it
+abbrev pub raw_text : List ℕ → List ℕ → List ℕ
+raw_text cdb bytes = codes "cdb " ++ (hex cdb ++ 32 ∷ hex_or_dash bytes)
+
 -- what stands behind a host's letter
 abbrev pub action_text : Action → List ℕ
 action_text (Read lba count) = codes "read " ++ (numeral lba ++ 32 ∷ numeral count)
 action_text (Write lba bytes) = codes "write " ++ (numeral lba ++ 32 ∷ hex_or_dash bytes)
 action_text (Fill lba count byte) = codes "fill " ++ (numeral lba ++ 32 ∷ (numeral count ++ 32 ∷ hex (byte ∷ [])))
-action_text (Raw cdb bytes) = codes "cdb " ++ (hex cdb ++ 32 ∷ hex_or_dash bytes)
+action_text (Raw cdb bytes) = raw_text cdb bytes
 action_text (Lose target) = codes "lose " ++ numeral target
 action_text (Reset target) = codes "reset " ++ numeral target
 action_text (DropNext target) = codes "drop " ++ numeral target
@@ -109,12 +113,16 @@ IsMaximum unit n = (n ≡ 0) ⊎ ((unit ≤ n) × (n ≤ 65535))
 abbrev pub AreBlocks : Geometry → List ℕ → Type 0
 AreBlocks g bytes = AreWhole g.block bytes × (length bytes ≤ 65535 * g.block)
 
+-- a CDB has at least one byte, and bytes are bytes
+abbrev pub IsRaw : List ℕ → List ℕ → Type 0
+IsRaw cdb bytes = (1 ≤ length cdb) × AreBytes cdb × AreBytes bytes
+
 -- the numbers of an action are in range, and a write's bytes are at most 65535 whole blocks
 abbrev pub IsAction : Geometry → Action → Type 0
 IsAction g (Read lba count) = (lba < 2 ^ 32) × (count < 2 ^ 16)
 IsAction g (Write lba bytes) = (lba < 2 ^ 32) × AreBytes bytes × AreBlocks g bytes
 IsAction g (Fill lba count byte) = (lba < 2 ^ 32) × (count < 2 ^ 16) × (byte < 256)
-IsAction g (Raw cdb bytes) = (1 ≤ length cdb) × AreBytes cdb × AreBytes bytes
+IsAction g (Raw cdb bytes) = IsRaw cdb bytes
 IsAction g (Lose target) = target < g.targets
 IsAction g (Reset target) = target < g.targets
 IsAction g (DropNext target) = target < g.targets

@@ -3,14 +3,15 @@
 ghost use Rattle.std.specs.Prelude.{◌≡◌, ◌<◌, ◌==◌, ◌&&◌, nat_le, ◌*◌, ◌%◌, ◌≤◌, length};
 ghost use Rattle.host_scripts.specs.declared.script.Action.TheVariants as actions;
 ghost use Rattle.text_fields.specs.Reading.{Reads};
-ghost use Rattle.host_scripts.specs.Loose.{operation_at, read_of, write_of, fill_of, raw_of, target_of, on_target, operator_of, action_of};
+ghost use Rattle.host_scripts.specs.Loose.{operation_at, raw_parts_of, read_of, write_of, fill_of, raw_of, target_of, on_target, operator_of, action_of};
 ghost use Rattle.host_scripts.specs.Reading.{Gives, judged, is_ranged, is_sized};
 
 use crate::numbers::{addressed, numeral, two_numbers};
+use crate::raw_parts::raw_parts;
 use crate::script::{Action, Cause, ScriptFault, refused};
 use std::alloc::Global;
 use stripe_layout::Geometry;
-use text_fields::{cut, data_bytes, filled_bytes, is_text, one_byte, strip};
+use text_fields::{data_bytes, is_text, one_byte, strip};
 
 /// What an operator does to one target.
 #[derive(Clone, Copy)]
@@ -117,15 +118,7 @@ fn raw_action(
 ) -> Result<Action, ScriptFault>
     ensures { Gives (λ a. a) result (judged line (is_ranged geometry.now) (is_sized geometry.now) (raw_of text.now)) }
 {
-    let Some((cdb, behind)) = cut(text, b' ') else {
-        return Err(refused(line, Cause::Form));
-    };
-    let Some(cdb) = filled_bytes(alloc, cdb)? else {
-        return Err(refused(line, Cause::Form));
-    };
-    let Some(bytes) = data_bytes(alloc, behind)? else {
-        return Err(refused(line, Cause::Form));
-    };
+    let (cdb, bytes) = raw_parts(alloc, line, text)?;
     Ok(Action::Raw { cdb, bytes })
 }
 

@@ -1,6 +1,7 @@
 //! Whether a script has too much of something.
 
 ghost use Rattle.std.specs.Prelude.{◌≡◌, ◌+◌, ◌*◌, ◌/◌, ◌<◌, ◌≤◌, ◌^◌, length};
+ghost use Rattle.sbc_cdbs.specs.Reading.{decoded};
 ghost use Rattle.stripe_layout.specs.Layout.{IsArray};
 ghost use Rattle.host_scripts.specs.Scripts.{IsScript};
 ghost use Rattle.host_scripts.specs.Limits.{transferred, transferred_by, blocks_of, all_blocks, media_of, is_pass, passes_of, limit_of};
@@ -9,14 +10,14 @@ use crate::script::{Action, Call, Limit, Script};
 use sbc_cdbs::{Command, decode};
 use stripe_layout::Geometry;
 
-/// Call lines.
-const MOST_CALLS: usize = 10_000;
+/// Call lines of a script, and lines of a bench behind its header.
+pub const MOST_CALLS: usize = 10_000;
 
 /// Blocks that calls read or write.
 const MOST_BLOCKS: u64 = 100_000;
 
-/// Bytes that calls move, and bytes of all media together.
-const MOST_BYTES: u64 = 16_777_216;
+/// Bytes that a script's calls move, and bytes of all media together.
+pub const MOST_BYTES: u64 = 16_777_216;
 
 /// Calls that go over all stripes.
 const MOST_PASSES: usize = 16;
@@ -34,7 +35,7 @@ fn command_blocks(command: &Command) -> u16
 
 /// The same of a CDB, where it is one of these two.
 fn cdb_blocks(cdb: &[u8]) -> u16
-    ensures { result ≡ transferred cdb.now }
+    ensures { result ≡ transferred (decoded cdb.now) }
 {
     match decode(cdb) {
         Ok(command) => command_blocks(&command),
@@ -78,12 +79,20 @@ fn all_blocks(geometry: &Geometry, calls: &[Call]) -> u64
     sum
 }
 
+/// The bytes of the media of so many targets, each of so many blocks.
+pub fn media_bytes(targets: u8, rows: u32, block: u32) -> u64
+    requires { block ≤ 4096 }
+    ensures { result ≡ targets * rows * block }
+{
+    u64::from(targets) * u64::from(rows) * u64::from(block)
+}
+
 /// The bytes of all media together.
 fn media(geometry: &Geometry) -> u64
     requires { IsArray geometry.now }
     ensures { result ≡ media_of geometry.now }
 {
-    u64::from(geometry.targets) * u64::from(geometry.rows()) * u64::from(geometry.block)
+    media_bytes(geometry.targets, geometry.rows(), geometry.block)
 }
 
 /// Whether a call goes over all stripes.

@@ -69,14 +69,14 @@ pub enum Cause {
     Size,
 }
 
-/// What a script may have only so much of.
+/// What a script or a bench may have only so much of.
 #[derive(Clone, Copy, Debug, PartialEq, Eq)]
 pub enum Limit {
-    /// Call lines.
+    /// Call lines, or lines of a bench behind its header.
     Calls,
     /// Blocks that calls read or write.
     Blocks,
-    /// Bytes of these blocks.
+    /// Bytes of these blocks, or bytes that a bench's lines move.
     Moved,
     /// Bytes of all targets' media together.
     Media,
@@ -84,7 +84,7 @@ pub enum Limit {
     Passes,
 }
 
-/// Why there is no script.
+/// Why there is no script, or no bench.
 #[derive(Clone, Copy, Debug, PartialEq, Eq)]
 pub enum ScriptFault {
     /// The first line that is refused, counted from 1, and the first cause in it.
