@@ -1,34 +1,16 @@
 -- What the decoder of CDBs answers decides the tests of a host's CDB.
-use Rattle.std.proofs.Common.{◌≡◌, ◌≢◌, ℕ, zero, suc, ◌+◌, ◌<◌, ◌==◌, ◌||◌, not, if◌then◌else◌, Bool, true, false, List, [], ◌∷◌, length, Option, Some, None, option_map, refl, sym, ap, subst, arith, ◌∙◌}
+use Rattle.std.proofs.Common.{◌≡◌, ◌≢◌, ℕ, ◌==◌, ◌||◌, not, if◌then◌else◌, Bool, true, false, List, [], ◌∷◌, length, Option, Some, None, option_map, refl, sym, ap, subst, arith, ◌∙◌}
 use Rattle.std.proofs.lemmas.Bool.{eq-eqb, ne_eqb, false≢true}
 use Rattle.std.proofs.lemmas.Option.{none-some, same_Some}
-use Rattle.std.specs.Int.Bits.{bit_and}
-use Rattle.cdb_fields.specs.Fields.{SharesBit, SharesNone}
 use Rattle.sense_data.specs.declared.senses.Sense.{Sense}
 use Rattle.sbc_cdbs.specs.Faults.{reserved_bits, IsBitFault, IsFault}
 use Rattle.sbc_cdbs.specs.declared.decoding.CdbFault.{CdbFault}
 use Rattle.sbc_cdbs.specs.declared.decoding.CdbFault.TheVariants.{OpCode, Length, Bits}
+use Rattle.sbc_cdbs.proofs.Offending.{first-found}
 use Rattle.sbc_cdbs.proofs.Spelled.{transfer_mask}
 use Rattle.host_requests.specs.Cdbs.{has_other_code, fault_by}
 use Rattle.host_requests.specs.Forms.{sense_of}
-use Rattle.host_requests.specs.Requests.{illegal, first_offending, field_fault, cdb_fault}
-
--- ---- the lowest byte with an offending bit
-
-first-found : (k : ℕ) (mask bytes : List ℕ) (i : ℕ) → length bytes ≡ length mask → i < length bytes → SharesBit mask bytes i
-    → ((j : ℕ) → j < i → SharesNone mask bytes j) → first_offending k mask bytes ≡ Some (k + i)
-first-found k [] bytes i len lt bit none = let no : ⊥ = omega (arith, len, lt) in absurd no
-first-found k (m ∷ mask) [] i len lt bit none = let no : ⊥ = omega (arith, lt) in absurd no
-first-found k (m ∷ mask) (b ∷ bytes) zero len lt bit none = rw (ne_eqb (bit_and m b) 0 bit) (ap Some (omega arith))
-first-found k (m ∷ mask) (b ∷ bytes) (suc i) len lt bit none =
-    rw (eq-eqb (bit_and m b) 0 (none 0 (omega arith)))
-    (first-found (suc k) mask bytes i (omega (arith, len)) (omega (arith, lt)) bit (λ j l. none (suc j) (omega (arith, l))) ∙ ap Some (omega arith))
-
-none-found : (k : ℕ) (mask bytes : List ℕ) → ((j : ℕ) → SharesNone mask bytes j) → first_offending k mask bytes ≡ None
-none-found k [] bytes none = refl
-none-found k (m ∷ mask) [] none = refl
-none-found k (m ∷ mask) (b ∷ bytes) none =
-    rw (eq-eqb (bit_and m b) 0 (none 0)) (none-found (suc k) mask bytes (λ j. none (suc j)))
+use Rattle.host_requests.specs.Requests.{illegal, field_fault, cdb_fault}
 
 -- ---- the tests by the reserved bits of a code
 

@@ -1,10 +1,10 @@
 -- What each call of a script asks of the array, and which calls of hosts are answered ILLEGAL REQUEST: those that fail
 -- one of four tests (SBC, READ(10) and WRITE(10)).
-use Rattle.std.specs.Prelude.{◌<◌, ℕ, zero, suc, ◌+◌, ◌*◌, ◌/◌, ◌==◌, ◌||◌, Bool, nat_lt, if◌then◌else◌, List, [], ◌∷◌, length, replicate, slice_index, slice_get, bit_and, Option, Some, None, option_map, MatchOption, true, refl}
-use Rattle.std.proofs.Common.{subst, lit<}
+use Rattle.std.specs.Prelude.{ℕ, zero, suc, ◌+◌, ◌*◌, ◌/◌, ◌==◌, ◌||◌, Bool, nat_lt, if◌then◌else◌, List, [], ◌∷◌, length, replicate, slice_index, slice_get, Option, Some, None, option_map}
 use Rattle.cdb_fields.specs.Fields.{number_at}
-use Rattle.sbc_cdbs.specs.Faults.{reserved_bits}
-use Rattle.sense_data.specs.declared.senses.Pointer.{Pointer}
+use Rattle.sbc_cdbs.specs.Faults.{reserved_bits, first_offending}
+use Rattle.sense_data.specs.Illegal as senses
+use Rattle.sense_data.specs.Illegal.{in_cdb}
 use Rattle.sense_data.specs.declared.senses.Sense.{Sense}
 use Rattle.stripe_layout.specs.declared.geometry.Geometry.{Geometry}
 use Rattle.stripe_layout.specs.Layout.{capacity_of}
@@ -25,31 +25,11 @@ pub record Transfer : Type 0 where
 
 -- ---- the sense of a refused command
 
--- a pointer at a byte of the CDB
-abbrev pub at_byte : ℕ → Pointer
-at_byte byte = record { command = true; bit = None; byte = byte; in_byte = λ b e. subst (λ (o : Option ℕ). MatchOption o (Unit {0}) (λ x. b < 8)) e tt }
-
 -- ILLEGAL REQUEST with an additional sense code, and perhaps a pointer at a byte of the CDB
 abbrev pub illegal : ℕ → Option ℕ → Sense
-illegal asc byte = record {
-  key = 5;
-  information = None;
-  specific = 0;
-  asc = asc;
-  ascq = 0;
-  fru = 0;
-  pointer = option_map at_byte byte;
-  in_range = lit< tt;
-  illegal = λ p e. refl;
-}
+illegal asc byte = senses.illegal asc 0 (option_map in_cdb byte)
 
 -- ---- the tests, in their order
-
--- The lowest byte, from this one on, with a bit that must be zero and is one.
-abbrev pub first_offending : ℕ → List ℕ → List ℕ → Option ℕ
-first_offending byte [] cdb = None
-first_offending byte (m ∷ mask) [] = None
-first_offending byte (m ∷ mask) (b ∷ cdb) = if bit_and m b == 0 then first_offending (suc byte) mask cdb else Some byte
 
 -- A CDB of this code and these reserved bits has another length (no pointer), or such a bit.
 abbrev pub field_fault : Option (List ℕ) → List ℕ → Option Sense

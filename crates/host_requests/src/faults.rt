@@ -6,8 +6,6 @@ ghost use Rattle.host_requests.specs.Forms.{sense_of};
 
 use sense_data::{Pointer, Sense};
 
-const ILLEGAL_REQUEST: u8 = 5;
-
 /// The first test that a host's call fails, in the order of the tests (SBC, READ(10) and WRITE(10)).
 #[derive(Clone, Copy, Debug, PartialEq, Eq)]
 pub enum RequestFault {
@@ -43,20 +41,8 @@ fn illegal(asc: u8, byte: Option<u16>) -> Sense
     ensures { result ≡ illegal asc byte }
 {
     let pointer = match byte {
-        Some(byte) => Some(Pointer {
-            command: true,
-            bit: None,
-            byte,
-        }),
+        Some(byte) => Some(Pointer::in_cdb(byte)),
         None => None,
     };
-    Sense {
-        key: ILLEGAL_REQUEST,
-        information: None,
-        specific: 0,
-        asc,
-        ascq: 0,
-        fru: 0,
-        pointer,
-    }
+    Sense::illegal(asc, 0, pointer)
 }

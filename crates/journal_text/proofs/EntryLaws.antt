@@ -11,7 +11,11 @@ use Rattle.journal_text.specs.Lines.{field_of, name_text, name_of, event_at, sta
 use Rattle.journal_text.specs.Readable.{IsEntry}
 use Rattle.text_fields.proofs.Cuts.{bind-some, above-lower, ends, front-takes, front-again, stripped-takes, stripped-again}
 use Rattle.journal_text.proofs.Numerals.{number-takes, number-again, decimal-above}
-use Rattle.journal_text.proofs.EventLaws.{title, fields, event-parts, event-takes, event-again, fields-begin, name-part, lock-part}
+use Rattle.journal_text.proofs.EventFields.{short-part}
+use Rattle.journal_text.proofs.EventNames.{name-part}
+use Rattle.journal_text.proofs.EventParts.{title, fields, event-parts, fields-begin}
+use Rattle.journal_text.proofs.EventTakes.{event-takes}
+use Rattle.journal_text.proofs.EventAgain.{event-again}
 
 stamp-takes : (bytes : List ℕ) (stamp : ℕ) (rest : List ℕ) → stamp_at bytes ≡ Some (stamp, rest) → (bytes ≡ decimal stamp ++ rest) × (stamp < 2 ^ 64)
 unfolding stamp_at
@@ -53,7 +57,7 @@ entry-takes bytes e rest h =
     let made : Entry = record { stamp = a.0.0; lock = b.0.0; event = d.0.0 } in
     let same = some_pair_parts made e f.0 rest f.2 in
     let s = stamp-takes bytes a.0.0 a.0.1 a.1 in
-    let l = lock-part.takes a.0.1 b.0.0 b.0.1 b.1 in
+    let l = short-part.takes a.0.1 b.0.0 b.0.1 b.1 in
     let n = name-part.takes b.0.1 c.0.0 c.0.1 c.1 in
     let v = event-takes c.0.0 c.0.1 d.0.0 d.0.1 d.1 in
     let spelt : bytes ≡ parts a.0.0 b.0.0 c.0.0 (fields d.0.0) f.0 =
@@ -71,7 +75,7 @@ entry-again e rest h =
     ∙ ap (λ (o : Option (ℕ × List ℕ)). o >>= λ stamp. field_of (number_of 255) stamp.1 >>= λ lock. field_of name_of lock.1 >>= λ name. event_at name.0 name.1 >>= λ event. stripped (10 ∷ []) event.1 >>= λ rest. Some (record { stamp = stamp.0; lock = lock.0; event = event.0 }, rest))
     (stamp-again e.stamp (field (decimal e.lock) ++ name) h.0 refl)
     ∙ ap (λ (o : Option (ℕ × List ℕ)). o >>= λ lock. field_of name_of lock.1 >>= λ name. event_at name.0 name.1 >>= λ event. stripped (10 ∷ []) event.1 >>= λ rest. Some (record { stamp = e.stamp; lock = lock.0; event = event.0 }, rest))
-    (lock-part.again e.lock name h.1 refl)
+    (short-part.again e.lock name h.1 refl)
     ∙ ap (λ (o : Option (EventName × List ℕ)). o >>= λ name. event_at name.0 name.1 >>= λ event. stripped (10 ∷ []) event.1 >>= λ rest. Some (record { stamp = e.stamp; lock = e.lock; event = event.0 }, rest))
     (name-part.again (title e.event) behind tt (fields-begin e.event (10 ∷ rest)))
     ∙ ap (λ (o : Option (Event × List ℕ)). o >>= λ event. stripped (10 ∷ []) event.1 >>= λ rest. Some (record { stamp = e.stamp; lock = e.lock; event = event.0 }, rest))

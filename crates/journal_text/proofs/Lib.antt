@@ -5,7 +5,11 @@ pub mod Parts
 pub mod WordLaws
 pub mod ListLaws
 pub mod SenseLaws
-pub mod EventLaws
+pub mod EventFields
+pub mod EventNames
+pub mod EventParts
+pub mod EventTakes
+pub mod EventAgain
 pub mod EntryLaws
 pub mod TraceLaws
 pub mod InRange

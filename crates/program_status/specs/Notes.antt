@@ -7,7 +7,7 @@ use Rattle.host_scripts.specs.declared.script.Limit.TheVariants.{Calls, Blocks, 
 use Rattle.text_fields.specs.Spelling.{line}
 use Rattle.text_fields.specs.Spelling.{counted}
 use Rattle.program_status.specs.declared.notes.Excess.{Excess}
-use Rattle.program_status.specs.declared.notes.Excess.TheVariants.{Input, Script}
+use Rattle.program_status.specs.declared.notes.Excess.TheVariants.{Input, Counted}
 
 abbrev pub limit_name : Limit → List ℕ
 limit_name Calls = codes "calls"
@@ -18,7 +18,7 @@ limit_name Passes = codes "passes"
 
 abbrev pub excess_name : Excess → List ℕ
 excess_name Input = codes "input"
-excess_name (Script limit) = limit_name limit
+excess_name (Counted limit) = limit_name limit
 
 abbrev pub excess_line : Excess → List ℕ
 excess_line excess = line (codes "limit " ++ excess_name excess)

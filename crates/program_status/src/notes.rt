@@ -8,11 +8,12 @@ use host_scripts::{Cause, Limit};
 use std::alloc::Global;
 use text_fields::push_counted;
 
-/// What there is too much of: bytes of the input, or something that a script has only so much of.
+/// What there is too much of: bytes of the input, or something that is counted in the script or the bench that
+/// it spells.
 #[derive(Clone, Copy, Debug, PartialEq, Eq)]
 pub enum Excess {
     Input,
-    Script(Limit),
+    Counted(Limit),
 }
 
 /// The line of what there is too much of.
@@ -21,11 +22,11 @@ pub fn excess_line(excess: Excess) -> &'static [u8]
 {
     match excess {
         Excess::Input => b"limit input\n",
-        Excess::Script(Limit::Calls) => b"limit calls\n",
-        Excess::Script(Limit::Blocks) => b"limit blocks\n",
-        Excess::Script(Limit::Moved) => b"limit moved\n",
-        Excess::Script(Limit::Media) => b"limit media\n",
-        Excess::Script(Limit::Passes) => b"limit passes\n",
+        Excess::Counted(Limit::Calls) => b"limit calls\n",
+        Excess::Counted(Limit::Blocks) => b"limit blocks\n",
+        Excess::Counted(Limit::Moved) => b"limit moved\n",
+        Excess::Counted(Limit::Media) => b"limit media\n",
+        Excess::Counted(Limit::Passes) => b"limit passes\n",
     }
 }
 

@@ -20,7 +20,7 @@ use Rattle.std.proofs.lemmas.List.{length-reverse}
 use Rattle.stripe_layout.specs.Layout.{stripes_of, first_row}
 use Rattle.stripe_check.specs.declared.command_summary.CommandSummary.{CommandSummary}
 use Rattle.stripe_check.specs.declared.command_summary.Tally.{Tally}
-use Rattle.stripe_check.specs.declared.check.Failure.{Failure}
+use Rattle.stripe_check.specs.declared.failure.Failure.{Failure}
 use Rattle.stripe_check.specs.declared.absent_units.Losses.{Losses}
 use Rattle.stripe_check.specs.declared.call_outcomes.Story.{Story}
 use Rattle.stripe_check.specs.Findings.{IsFound}

@@ -4,7 +4,7 @@ use Rattle.stripe_layout.specs.declared.geometry.Geometry.{Geometry}
 use Rattle.array_journal.specs.declared.entry.Entry.{Entry}
 use Rattle.stripe_check.specs.declared.command_summary.CommandSummary.{CommandSummary}
 use Rattle.stripe_check.specs.declared.command_summary.Tally.{Tally}
-use Rattle.stripe_check.specs.declared.check.Failure.{Failure}
+use Rattle.stripe_check.specs.declared.failure.Failure.{Failure}
 use Rattle.stripe_check.specs.Folds.{AreCommands, AreReads, AreFailures, AreTallies, AreListed}
 
 pub record Tells (calls : ℕ) (past : List Entry) (kept : List CommandSummary) (reads : List (List ℕ)) (failures : List (Option Failure)) (tallies : List Tally) (listed : List (ℕ × ℕ)) : Type 0 where

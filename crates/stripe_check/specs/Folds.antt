@@ -15,7 +15,7 @@ use Rattle.array_journal.specs.Media.{media}
 use Rattle.stripe_check.specs.declared.command_summary.Brief.{Brief}
 use Rattle.stripe_check.specs.declared.command_summary.CommandSummary.{CommandSummary}
 use Rattle.stripe_check.specs.declared.command_summary.Tally.{Tally}
-use Rattle.stripe_check.specs.declared.check.Failure.{Failure}
+use Rattle.stripe_check.specs.declared.failure.Failure.{Failure}
 use Rattle.stripe_check.specs.Replies.{bytes_read, failure_of}
 use Rattle.stripe_check.specs.Tallies.{untold, tally_of}
 

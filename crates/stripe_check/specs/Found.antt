@@ -11,7 +11,7 @@ use Rattle.text_fields.specs.Spelling.{line, counted}
 use Rattle.stripe_check.specs.declared.command_summary.Brief.{Brief}
 use Rattle.stripe_check.specs.declared.command_summary.CommandSummary.{CommandSummary}
 use Rattle.stripe_check.specs.declared.command_summary.Tally.{Tally}
-use Rattle.stripe_check.specs.declared.check.Failure.{Failure}
+use Rattle.stripe_check.specs.declared.failure.Failure.{Failure}
 use Rattle.stripe_check.specs.Folds.{unknown}
 use Rattle.stripe_check.specs.AbsentUnits.{is_lost}
 use Rattle.stripe_check.specs.Reports.{absent_text}

@@ -1,9 +1,6 @@
 -- What each call of a script is answered, as a journal tells it. A list called past has the newest entry first.
 use Rattle.std.specs.Prelude.{ℕ, ◌+◌, ◌==◌, if◌then◌else◌, List, [], ◌∷◌, ◌++◌, Option, Some, None, codes}
-use Rattle.std.specs.Option.{option_map}
 use Rattle.std.specs.Fmt.{decimal}
-use Rattle.sense_data.specs.declared.senses.Pointer.{Pointer}
-use Rattle.sense_data.specs.declared.senses.Sense.{Sense}
 use Rattle.stripe_layout.specs.declared.geometry.Geometry.{Geometry}
 use Rattle.array_journal.specs.declared.entry.Entry.{Entry}
 use Rattle.array_journal.specs.declared.event.Event.{Event}
@@ -17,12 +14,13 @@ use Rattle.array_journal.specs.Host.{HostItem, ReadItem, WroteItem, RefusedItem,
 use Rattle.host_scripts.specs.declared.script.Action.{Action}
 use Rattle.host_scripts.specs.declared.script.Action.TheVariants.{Read, Write, Fill, Raw, Lose, Reset, DropNext, Replace, Rebuild, Resync}
 use Rattle.host_scripts.specs.declared.script.Call.{Call}
-use Rattle.text_fields.specs.Spelling.{line, hex, upper_nibble, upper_byte, counted}
+use Rattle.text_fields.specs.Spelling.{line, counted}
 use Rattle.host_scripts.specs.Scripts.{letter}
+use Rattle.answer_text.specs.declared.check.Check.{Check}
+use Rattle.answer_text.specs.Answers.{plain_check, sense_check, check_text, good_text}
 use Rattle.stripe_check.specs.declared.command_summary.Tally.{Tally}
-use Rattle.stripe_check.specs.declared.check.Check.{Check}
-use Rattle.stripe_check.specs.declared.check.Failure.{Failure}
-use Rattle.stripe_check.specs.declared.check.Failure.TheVariants.{Refused, Spoilt}
+use Rattle.stripe_check.specs.declared.failure.Failure.{Failure}
+use Rattle.stripe_check.specs.declared.failure.Failure.TheVariants.{Refused, Spoilt}
 use Rattle.stripe_check.specs.Tallies.{is_of_call, tally_of}
 
 -- the bytes that an item tells a call
@@ -63,13 +61,6 @@ abbrev pub failure_of : ℕ → List Entry → Option Failure
 failure_of n [] = None
 failure_of n (e ∷ past) = first_failure (failure_by n e.event (spoilt_task (spoilt_command e.event) past)) (failure_of n past)
 
--- sense key, additional sense code and qualifier, without a pointer
-abbrev pub plain_check : ℕ → ℕ → ℕ → Check
-plain_check key asc ascq = record { key = key; asc = asc; ascq = ascq; byte = None }
-
-abbrev pub sense_check : Sense → Check
-sense_check sense = record { key = sense.key; asc = sense.asc; ascq = sense.ascq; byte = option_map (λ (p : Pointer). p.byte) sense.pointer }
-
 -- The check for a refusal, where a missing unit of a listed stripe has its own. NOT READY comes for two missing
 -- units; the reasons below it refuse nothing that reads or writes.
 abbrev pub refusal_check : Check → Why → Check
@@ -88,19 +79,6 @@ refusal_check medium NotLost = plain_check 2 4 0
 abbrev pub failure_check : Check → Failure → Check
 failure_check medium (Refused why) = refusal_check medium why
 failure_check medium Spoilt = plain_check 11 8 0
-
--- where the sense points
-abbrev pub byte_text : Option ℕ → List ℕ
-byte_text None = []
-byte_text (Some byte) = codes " byte " ++ decimal byte
-
-abbrev pub check_text : Check → List ℕ
-check_text c = codes "check " ++ (upper_nibble c.key ∷ 32 ∷ (upper_byte c.asc ++ (47 ∷ (upper_byte c.ascq ++ byte_text c.byte))))
-
--- GOOD, and the bytes read where there are some
-abbrev pub good_text : List ℕ → List ℕ
-good_text [] = codes "good"
-good_text (b ∷ bytes) = codes "good " ++ hex (b ∷ bytes)
 
 -- the answer to a call that reads or writes
 abbrev pub host_text : Check → List ℕ → Option Failure → List ℕ

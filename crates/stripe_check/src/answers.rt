@@ -6,9 +6,9 @@ ghost use Rattle.array_journal.specs.declared.entry.Entry.{Entry};
 ghost use Rattle.array_journal.specs.Host.{is_read, is_degraded_read};
 ghost use Rattle.stripe_check.specs.Folds.{AreCommands, AreReads, AreFailures, told_if};
 
-use crate::check::Failure;
 use crate::command_summary::{Brief, CommandSummary};
 use crate::commands::command_at;
+use crate::failure::Failure;
 use array_journal::{Entry, Event, Kind};
 use blocks_core::{Bytes, Memory};
 

@@ -5,9 +5,9 @@ ghost use Rattle.array_journal.specs.declared.entry.Entry.{Entry};
 ghost use Rattle.stripe_check.specs.CallOutcomes.{Tells};
 
 use crate::answers::{keep_failure, keep_read};
-use crate::check::Failure;
 use crate::command_summary::{CommandSummary, Tally};
 use crate::commands::keep_command;
+use crate::failure::Failure;
 use crate::listed::keep_listed;
 use crate::tallies::keep_tally;
 use array_journal::{Entry, Journal};

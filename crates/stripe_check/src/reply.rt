@@ -1,40 +1,16 @@
 //! The answers to calls, and their lines.
 
 ghost use Rattle.std.specs.Prelude.{◌≡◌, ◌==◌, ◌<◌, ◌++◌, ◌∷◌, OnOk, if◌then◌else◌};
-ghost use Rattle.text_fields.specs.Spelling.{upper_byte};
-ghost use Rattle.stripe_check.specs.Replies.{plain_check, sense_check, refusal_check, failure_check, byte_text, check_text, good_text, host_text, read_error, write_error, replaced_text, tally_text, reply_text, answer_line};
+ghost use Rattle.stripe_check.specs.Replies.{refusal_check, failure_check, host_text, read_error, write_error, replaced_text, tally_text, reply_text, answer_line};
 
-use crate::check::{Check, Failure};
 use crate::command_summary::Tally;
+use crate::failure::Failure;
+use answer_text::{Check, check_of, plain_check, push_check, push_good};
 use array_journal::Why;
 use blocks_core::{Bytes, Memory};
 use host_requests::is_write;
 use host_scripts::{Action, Call};
-use sense_data::Sense;
-use text_fields::{push_counted, push_hex, push_number, push_upper_byte, upper_nibble};
-
-fn check_of(sense: &Sense) -> Check
-    ensures { result ≡ sense_check sense.now }
-{
-    Check {
-        key: sense.key,
-        asc: sense.asc,
-        ascq: sense.ascq,
-        byte: sense.pointer.map(|pointer| pointer.byte),
-    }
-}
-
-/// A check that points at no byte of the CDB.
-fn plain_check(key: u8, asc: u8, ascq: u8) -> Check
-    ensures { result ≡ plain_check key asc ascq }
-{
-    Check {
-        key,
-        asc,
-        ascq,
-        byte: None,
-    }
-}
+use text_fields::{push_counted, push_number};
 
 /// The check of a piece that is refused, where a medium error has the one given.
 fn refusal_check(medium: Check, why: &Why) -> Check
@@ -60,48 +36,6 @@ fn failure_check(medium: Check, failure: &Failure) -> Check
         Failure::Refused { why } => refusal_check(medium, why),
         Failure::Spoilt => plain_check(11, 8, 0),
     }
-}
-
-fn push_byte_pointer(text: &mut Bytes, byte: Option<u16>) -> Result<(), Memory>
-    ensures { OnOk result (text.new ≡ text.old ++ byte_text byte) }
-{
-    match byte {
-        None => Ok(()),
-        Some(byte) => {
-            text.push_slice(b" byte ")?;
-            push_number(text, u64::from(byte))
-        }
-    }
-}
-
-fn push_codes(text: &mut Bytes, check: &Check) -> Result<(), Memory>
-    ensures { OnOk result (text.new ≡ text.old ++ (upper_byte check.now.asc ++ (47 ∷ upper_byte check.now.ascq))) }
-{
-    push_upper_byte(text, check.asc)?;
-    text.push(b'/')?;
-    push_upper_byte(text, check.ascq)
-}
-
-fn push_check(text: &mut Bytes, check: &Check) -> Result<(), Memory>
-    requires { check.now.key < 16 }
-    ensures { OnOk result (text.new ≡ text.old ++ check_text check.now) }
-{
-    text.push_slice(b"check ")?;
-    text.push(upper_nibble(check.key))?;
-    text.push(b' ')?;
-    push_codes(text, check)?;
-    push_byte_pointer(text, check.byte)
-}
-
-fn push_good(text: &mut Bytes, bytes: &[u8]) -> Result<(), Memory>
-    ensures { OnOk result (text.new ≡ text.old ++ good_text bytes.now) }
-{
-    text.push_slice(b"good")?;
-    if bytes.is_empty() {
-        return Ok(());
-    }
-    text.push(b' ')?;
-    push_hex(text, bytes)
 }
 
 /// The answer to a call that reads or writes.

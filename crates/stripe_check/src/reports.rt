@@ -15,12 +15,12 @@ ghost use Rattle.stripe_check.specs.Tallies.{untold};
 
 use crate::absent_units::{Losses, losses_of};
 use crate::call_outcomes::{Story, story_of};
-use crate::check::Failure;
 use crate::command_summary::Tally;
 use crate::counts::{
     count_listed, count_lost, count_zero, push_all_absent, push_all_listed, push_counts,
     push_entries, stripe_sum,
 };
+use crate::failure::Failure;
 use crate::media::media_of;
 use crate::medium::ReplayedMedium;
 use crate::reply::push_reply;
