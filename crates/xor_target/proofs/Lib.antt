@@ -1,0 +1,13 @@
+pub mod FactSteps
+pub mod LogLaws
+pub mod CdbRows
+pub mod BlockCounts
+pub mod TakenBlocks
+pub mod StoodRows
+pub mod DiskSteps
+pub mod Acting
+pub mod Recorded
+pub mod KeptStates
+pub mod KeptBefalls
+pub mod Handing
+pub mod Possible

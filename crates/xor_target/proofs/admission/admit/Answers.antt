@@ -1,0 +1,23 @@
+use Rattle.std.proofs.Common.{rules, ◌≡◌, Some, None, sym, ◌∙◌}
+use Rattle.xor_target.specs.Admission.{cdb_rows, command_rows, command_in, refusal_of}
+use Rattle.xor_target.proofs.CdbRows.{stopped, at_fields, spelt-in}
+use Rattle.xor_target.proofs.admission.admit.Goals as goal
+
+pub returns-in_err-command-clause-refused : goal.returns-in_err-command-clause-refused
+returns-in_err-command-clause-refused c =
+    let told : refusal_of c.args.limits.now c.args.page.now c.args.cdb.now c.args.bytes.now ≡ Some c.in_err-command.field-0.0 =
+    stopped (cdb_rows c.args.page.now c.args.cdb.now) (command_rows c.args.limits.now c.args.page.now (command_in c.args.cdb.now) c.args.bytes.now) c.in_err-command.field-0.0 c.in_err-command.ensures.refused in
+    search (rules, c.from_residual.ensures, told)
+
+pub returns-in-Some-clause-refused : goal.returns-in-Some-clause-refused
+returns-in-Some-clause-refused c =
+    at_fields c.args.limits.now c.args.page.now c.args.cdb.now c.args.bytes.now c.in_ok-command.command (Some c.in-Some.sense)
+    c.in_ok-command.ensures.spelt c.in_ok-command.ensures.passes (sym c.command_refusal.ensures ∙ c.in-Some.is)
+
+pub returns-in-None-clause-admitted : goal.returns-in-None-clause-admitted
+returns-in-None-clause-admitted c =
+    at_fields c.args.limits.now c.args.page.now c.args.cdb.now c.args.bytes.now c.in_ok-command.command None
+    c.in_ok-command.ensures.spelt c.in_ok-command.ensures.passes (sym c.command_refusal.ensures ∙ c.in-None.is)
+
+pub returns-in-None-clause-fields : goal.returns-in-None-clause-fields
+returns-in-None-clause-fields c = sym (spelt-in c.args.cdb.now c.in_ok-command.command c.in_ok-command.ensures.spelt)

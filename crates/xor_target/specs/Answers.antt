@@ -1,0 +1,114 @@
+-- The answer of a target to an order, and what the target is afterwards.
+use Rattle.std.specs.Prelude.{◌≡◌, ◌≤◌, ◌+◌, ◌*◌, ◌==◌, ℕ, Bool, max, List, [], ◌∷◌, ◌++◌, take, Option, Some, None, IfSome, if◌then◌else◌}
+use Rattle.blocks_core.specs.Lists.{slice}
+use Rattle.sbc_cdbs.specs.declared.descriptor.Cdb.{Cdb}
+use Rattle.sbc_cdbs.specs.Cdbs.{cdb_bytes}
+use Rattle.sbc_cdbs.specs.declared.commands.Command.{Command}
+use Rattle.sbc_cdbs.specs.declared.commands.Command.TheVariants as sbc
+use Rattle.xor_mode_page.specs.declared.pages.XorPage.{XorPage}
+use Rattle.xor_mode_page.specs.Pages.{sense_header, spelling, changeable, Selects}
+use Rattle.xor_buffers.specs.Held.{owners_of}
+use Rattle.array_journal.specs.declared.entry.Entry.{Entry}
+use Rattle.array_journal.specs.declared.event.Event.{Event}
+use Rattle.array_journal.specs.declared.event.Event.TheVariants as events
+use Rattle.array_journal.specs.declared.at.At.{At}
+use Rattle.array_journal.specs.Lives.{life_of}
+use Rattle.array_journal.specs.Owners.{discarded_at}
+use Rattle.xor_target.specs.declared.order.Order.{Order}
+use Rattle.xor_target.specs.declared.answer.Answer.{Answer}
+use Rattle.xor_target.specs.declared.answer.Answer.TheVariants.{Good, Gone, Memory}
+use Rattle.xor_target.specs.Disks.{HasFailed}
+use Rattle.xor_target.specs.Logs.{last_stamp}
+use Rattle.xor_target.specs.Admission.{command_in, row_of, count_of}
+use Rattle.xor_target.specs.State.{TargetState}
+use Rattle.xor_target.specs.Table.{early_answer}
+use Rattle.xor_target.specs.Effects.{Effect, effect_of, rewritten}
+
+-- the stamp of the next entry, by one who has seen stamps up to this one: one more than the greater of that and the last
+abbrev pub next_stamp : List Entry → ℕ → ℕ
+next_stamp past seen = max (last_stamp past) seen + 1
+
+-- the next entry's name
+abbrev pub next_name : TargetState → ℕ → At
+next_name t seen = record { stamp = next_stamp t.past seen; lock = t.number + 1 }
+
+-- the next entry
+abbrev pub next_entry : TargetState → ℕ → Event → Entry
+next_entry t seen event = record { stamp = next_stamp t.past seen; lock = t.number + 1; event = event }
+
+-- ---- what a command of blocks comes to
+
+-- The command was done: what it does is done to the rows that stood there, with one entry, and nothing else is changed.
+pub record IsDone (t : TargetState) (order : Order) (command : Command) (bytes : List ℕ) (after : TargetState) : Type 0 where
+  pub cdb : Cdb
+  pub old : List ℕ
+  pub effect : Effect
+  pub sent : cdb_bytes cdb ≡ order.cdb
+  pub stood : IfSome t.contents (λ told. old ≡ slice told (row_of command * t.block) (count_of command * t.block))
+  pub does : effect_of t.block order cdb t.held old command ≡ Some effect
+  pub answers : bytes ≡ effect.answer
+  pub counted : t.faults ≤ after.faults
+  pub grown : after ≡ record t {
+    past = next_entry t order.stamp effect.event ∷ t.past;
+    held = effect.held;
+    contents = rewritten t.block (row_of command) effect.written t.contents;
+    faults = after.faults;
+  }
+
+-- the loss of a disk at a target: its life, the call that made it, 0 where the medium failed, and the owners of what is held
+abbrev pub loss_here : TargetState → ℕ → Event
+loss_here t call = events.Gone (life_of t.number t.past) call (owners_of t.held)
+
+-- The medium failed, and it isn't one that never fails: its count of failures rose, the disk is lost by one entry, and
+-- nothing is held any more. What the medium holds isn't known.
+pub record IsStruck (never_fails : Bool) (t : TargetState) (stamp : ℕ) (after : TargetState) : Type 0 where
+  pub failed : HasFailed never_fails t.faults after.faults
+  pub grown : after ≡ record t {
+    past = next_entry t stamp (loss_here t 0) ∷ t.past;
+    held = [];
+    contents = after.contents;
+    faults = after.faults;
+  }
+
+-- what a target answers whose disk is lost by its next entry
+abbrev pub lost_now : TargetState → ℕ → Option At → Answer
+lost_now t seen loss = Gone (next_name t seen) (life_of t.number t.past) loss
+
+-- ---- what the MODE commands come to (SPC)
+
+-- the page that a page control asks for: the current one, the bits that may be changed, the first one
+abbrev pub page_shown : TargetState → ℕ → XorPage
+page_shown t pc = if pc == 1 then changeable else if pc == 2 then t.first else t.page
+
+-- MODE SENSE answers the header and the page, cut to the allocation length
+pub record IsSensed (t : TargetState) (pc allocation : ℕ) (answer : Answer) (after : TargetState) : Type 0 where
+  pub says : answer ≡ Good (take allocation (sense_header ++ spelling (page_shown t pc))) []
+  pub same : after ≡ t
+
+-- MODE SELECT sets the page by the list
+pub record IsSelected (t : TargetState) (order : Order) (answer : Answer) (after : TargetState) : Type 0 where
+  pub says : answer ≡ Good [] []
+  pub selects : Selects order.bytes t.page after.page
+  pub same : after ≡ record t { page = after.page }
+
+-- ---- answers
+
+-- a command of blocks is done and answered GOOD, or the medium failed
+pub data IsActed (never_fails : Bool) (t : TargetState) (order : Order) (command : Command) (answer : Answer) (after : TargetState) : Type 0 where
+  Does : (bytes : List ℕ) → IsDone t order command bytes after → answer ≡ Good bytes (next_name t order.stamp ∷ []) →
+      IsActed never_fails t order command answer after
+  Fails : IsStruck never_fails t order.stamp after → answer ≡ lost_now t order.stamp (discarded_at t.number order.owner after.past) →
+      IsActed never_fails t order command answer after
+
+abbrev pub IsExecuted : Bool → TargetState → Order → Answer → TargetState → Command → Type 0
+IsExecuted never_fails t order answer after (sbc.ModeSense dbd pc page allocation) = IsSensed t pc allocation answer after
+IsExecuted never_fails t order answer after (sbc.ModeSelect pf sp list) = IsSelected t order answer after
+IsExecuted never_fails t order answer after command = IsActed never_fails t order command answer after
+
+-- The answer to an order, and the target afterwards. Want of memory comes only where the command would be done; it, and what is
+-- said before anything is done, leave all as it was.
+pub data IsAnswered (never_fails : Bool) (t : TargetState) (order : Order) (answer : Answer) (after : TargetState) : Type 0 where
+  WantsMemory : early_answer t order ≡ None → answer ≡ Memory → after ≡ t → IsAnswered never_fails t order answer after
+  Tells : early_answer t order ≡ Some answer → after ≡ t → IsAnswered never_fails t order answer after
+  Executes : early_answer t order ≡ None → IsExecuted never_fails t order answer after (command_in order.cdb) →
+      IsAnswered never_fails t order answer after

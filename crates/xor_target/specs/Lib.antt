@@ -1,0 +1,11 @@
+pub mod Admission
+pub mod Codes
+pub mod Logs
+pub mod Facts
+pub mod Disks
+pub mod State
+pub mod Table
+pub mod Effects
+pub mod Answers
+pub mod Befalls
+pub mod Acts

@@ -1,0 +1,19 @@
+//! One target: a disk that knows the XOR commands (SBC), what it answers, and the log of what it did.
+#![tactic(auto)]
+
+mod act;
+mod act_events;
+mod admission;
+mod answer;
+mod disk;
+mod limits;
+mod log;
+mod logged_disk;
+mod order;
+mod target;
+
+pub use admission::{Admitted, admit};
+pub use answer::{Answer, GoneAt, PeerBack, ShutAnswer};
+pub use limits::TargetLimits;
+pub use order::{Order, PeerRequest};
+pub use target::Target;

@@ -1,0 +1,56 @@
+//! Orders.
+
+ghost use Rattle.std.specs.Prelude.{◌≡◌, false, IfOk, OnErr};
+ghost use Rattle.xor_target.specs.Acts.{IsAdmitted, MovesBlocks};
+ghost use Rattle.xor_target.specs.Answers.{IsAnswered, IsActed, IsExecuted};
+ghost use Rattle.xor_target.specs.State.{is_waiting};
+
+use super::Target;
+use crate::admission::Admitted;
+use crate::answer::Answer;
+use crate::order::Order;
+use blocks_core::Memory;
+use sbc_cdbs::Command;
+use sector_media::Medium;
+use std::alloc::Global;
+
+impl<M: Medium + Drop> Target<M> {
+    /// Answers an order, and does what its command says where it isn't refused. All memory is taken before the
+    /// first change. The owner isn't waited for.
+    pub fn execute(&mut self, alloc: Global, order: &Order) -> Answer
+        requires { is_waiting self.old order.now.owner ≡ false }
+        ensures { IsAnswered M.NEVER_FAILS self.old order.now result self.new }
+    {
+        let admitted = match self.admitted(alloc, order) {
+            Ok(admitted) => admitted,
+            Err(answer) => return answer,
+        };
+        match self.serve(alloc, order, &admitted) {
+            Ok(answer) => answer,
+            Err(Memory) => Answer::Memory,
+        }
+    }
+
+    /// Does what a command says that is to be done.
+    fn serve(&mut self, alloc: Global, order: &Order, admitted: &Admitted) -> Result<Answer, Memory>
+        requires { IsAdmitted self.old order.now admitted.now }
+        ensures done { IfOk result (λ answer. IsExecuted M.NEVER_FAILS self.old order.now answer self.new admitted.now.command) }
+        ensures memory { OnErr result (self.new ≡ self.old) }
+    {
+        match admitted.command {
+            Command::ModeSense { pc, allocation, .. } => self.mode_sense(alloc, pc, allocation),
+            Command::ModeSelect { .. } => Ok(self.mode_select(alloc, order)),
+            _ => self.act(alloc, order, admitted),
+        }
+    }
+
+    /// Does what a command of blocks says.
+    fn act(&mut self, alloc: Global, order: &Order, admitted: &Admitted) -> Result<Answer, Memory>
+        requires admitted { IsAdmitted self.old order.now admitted.now }
+        requires blocks { MovesBlocks admitted.now.command }
+        ensures done { IfOk result (λ answer. IsActed M.NEVER_FAILS self.old order.now admitted.now.command answer self.new) }
+        ensures memory { OnErr result (self.new ≡ self.old) }
+    {
+        self.unit.act(alloc, order, admitted)
+    }
+}
