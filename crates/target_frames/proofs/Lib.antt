@@ -1,0 +1,7 @@
+pub mod Tests
+pub mod Openings
+pub mod FrameHeads
+pub mod Fronts
+pub mod Streams
+pub mod Feeds
+pub mod Cuts

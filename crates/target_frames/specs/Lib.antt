@@ -1,0 +1,5 @@
+pub mod Frames
+pub mod Heads
+pub mod Splits
+pub mod State
+pub mod Laws
