@@ -2,7 +2,6 @@
 use Rattle.std.proofs.Common.{◌≡◌, ℕ, ◌+◌, suc, Bool, true, false, not, List, [], ◌∷◌, ◌++◌, Option, Some, refl, sym, ap, ◌∙◌, cond, length, arith, inl, inr}
 use Rattle.std.specs.Prelude.{◌==◌, ◌&&◌, ◌||◌, filter}
 use Rattle.std.specs.BTreeMap.{get}
-use Rattle.std.specs.BTreeSet.{contains}
 use Rattle.std.specs.Ordering.{nat_cmp}
 use Rattle.std.proofs.lemmas.Bool.{cases_eq, eq-eqb, ne_eqb}
 use Rattle.std.proofs.lemmas.List.{append-nil}
@@ -17,11 +16,11 @@ use Rattle.array_book.specs.declared.commands.openings.Openings.{Openings}
 use Rattle.array_book.specs.declared.commands.endings.Endings.{Endings}
 use Rattle.array_book.specs.declared.commands.open_commands.OpenCommand.{OpenCommand}
 use Rattle.array_book.specs.declared.commands.open_commands.OpenCommands.{OpenCommands}
-use Rattle.array_book.specs.declared.commands.steps.CommandStep.{CommandStep}
-use Rattle.array_book.specs.declared.commands.steps.CommandStep.TheVariants.{Opens, Ends, Neither}
+use Rattle.array_book.specs.CommandSteps.{CommandStep}
+use Rattle.array_book.specs.CommandSteps.{Opens, Ends, Neither}
 use Rattle.array_book.specs.CommandSteps.{step_of}
 use Rattle.array_book.specs.Openings.{KeepsOpenings, opening_place}
-use Rattle.array_book.specs.Endings.{KeepsEndings}
+use Rattle.array_book.specs.Endings.{KeepsEndings, has_ended_in, is_done_in}
 use Rattle.array_book.specs.OpenCommands.{KeepsOpen, has_ended, open_by, open_in}
 use Rattle.array_book.proofs.StepLaws.{is_opening, opens_so, ends_so, done_so, stands_so, opening_place-step, open_count-step, ended-step, done-step, open_in-step}
 
@@ -61,8 +60,8 @@ endings-kept step e past part is none quiet keeps = record {
 
 -- ends, after one more
 pub endings-more : (command : ℕ) (done : Bool) (e : Entry) (past : List Entry) (old new : Endings) → step_of e ≡ Ends command done →
-    ((c : ℕ) → contains nat_cmp new.ended c ≡ ((command == c) || contains nat_cmp old.ended c)) →
-    ((c : ℕ) → contains nat_cmp new.done c ≡ ((done && (command == c)) || contains nat_cmp old.done c)) →
+    ((c : ℕ) → has_ended_in new c ≡ ((command == c) || has_ended_in old c)) →
+    ((c : ℕ) → is_done_in new c ≡ ((done && (command == c)) || is_done_in old c)) →
     KeepsEndings past old → KeepsEndings (e ∷ past) new
 endings-more command done e past old new is ended closed keeps = record {
   ended = λ c. ended c ∙ ap (λ (b : Bool). (command == c) || b) (keeps.ended c)

@@ -8,3 +8,9 @@ pub mod OpenOnes
 mod FirstOpen
 mod Counts
 mod Decided
+pub mod Results
+pub mod LeastOpen
+pub mod SoundTasks
+pub mod Opened
+mod Findings
+pub mod Beginnings

@@ -133,7 +133,7 @@ open_task-known past entries k opening same at =
     ap (λ xs. option_and_then (placed_task xs) opening) same ∙ ap (option_and_then (placed_task (reverse past))) at ∙ sym (open_task-placed past k)
 
 -- as many tasks as openings
-tasks-len : (ended : ℕ → Bool) (past : List Entry) → length (tasks_in ended past) ≡ length (open_in ended past)
+pub tasks-len : (ended : ℕ → Bool) (past : List Entry) → length (tasks_in ended past) ≡ length (open_in ended past)
 tasks-len ended [] = refl
 tasks-len ended (e ∷ past) =
     length-append (tasks_in ended past) (cond (e.lock == 0) (task_by ended e.event) [])

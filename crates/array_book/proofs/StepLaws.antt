@@ -8,8 +8,8 @@ use Rattle.array_journal.specs.Commands.{opens, opens_command, ends_command, ope
 use Rattle.array_journal.specs.Entries.{some_at}
 use Rattle.array_journal.specs.Lives.{closes_done}
 use Rattle.array_book.specs.declared.commands.open_commands.OpenCommand.{OpenCommand}
-use Rattle.array_book.specs.declared.commands.steps.CommandStep.{CommandStep}
-use Rattle.array_book.specs.declared.commands.steps.CommandStep.TheVariants.{Opens, Ends, Neither}
+use Rattle.array_book.specs.CommandSteps.{CommandStep}
+use Rattle.array_book.specs.CommandSteps.{Opens, Ends, Neither}
 use Rattle.array_book.specs.CommandSteps.{step_by, step_of}
 use Rattle.array_book.specs.Openings.{opening_place}
 use Rattle.array_book.specs.OpenCommands.{open_by, open_in}

@@ -1,10 +1,14 @@
 -- What an entry does to commands: it opens one, ends one, or does neither.
-use Rattle.std.specs.Prelude.{◌==◌, false, if◌then◌else◌}
+use Rattle.std.specs.Prelude.{◌==◌, ℕ, Bool, false, if◌then◌else◌}
 use Rattle.array_journal.specs.declared.entry.Entry.{Entry}
 use Rattle.array_journal.specs.declared.event.Event.{Event}
 use Rattle.array_journal.specs.declared.event.Event.TheVariants as events
-use Rattle.array_book.specs.declared.commands.steps.CommandStep.{CommandStep}
-use Rattle.array_book.specs.declared.commands.steps.CommandStep.TheVariants.{Opens, Ends, Neither}
+
+-- an entry opens a command, ends one, as done or not, or does neither
+pub data CommandStep : Type 0 where
+  Opens : ℕ → CommandStep
+  Ends : ℕ → Bool → CommandStep
+  Neither : CommandStep
 
 abbrev pub step_by : Event → CommandStep
 step_by (events.Open command task) = Opens command

@@ -5,6 +5,15 @@ pub mod Endings
 pub mod OpenCommands
 pub mod KnownCommands
 pub mod Noted
+pub mod Dirty
 pub mod OpenTasks
+pub mod Ledgers
 pub mod BookStates
 pub mod Decisions
+pub mod Asks
+pub mod Questions
+pub mod Waits
+pub mod BookAnswers
+pub mod Begins
+pub mod Kept
+pub mod Findings

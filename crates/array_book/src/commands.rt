@@ -1,12 +1,12 @@
 //! Commands: which were opened, which are open, and where their openings stand.
 
-ghost use Rattle.std.specs.Prelude.{◌≡◌, List, OnOk, [], ◌∷◌, length, reverse, slice_get, option_map};
+ghost use Rattle.std.specs.Prelude.{◌≡◌, List, OnOk, OnErr, [], ◌∷◌, length, reverse, slice_get, option_map};
 ghost use Rattle.std.specs.Option.{option_copied};
 ghost use Rattle.array_journal.specs.declared.entry.Entry.{Entry};
 ghost use Rattle.array_journal.specs.Commands.{is_open, open_count, task_of};
 ghost use Rattle.array_journal.specs.Entries.{some_at};
 ghost use Rattle.array_journal.specs.Lives.{closes_done};
-ghost use Rattle.array_book.specs.declared.commands.steps.CommandStep.TheVariants.{Opens, Ends};
+ghost use Rattle.array_book.specs.CommandSteps.{Opens, Ends};
 ghost use Rattle.array_book.specs.CommandSteps.{step_of};
 ghost use Rattle.array_book.specs.KnownCommands.{KeepsCommands};
 ghost use Rattle.array_book.specs.Openings.{opened_task};
@@ -15,12 +15,10 @@ ghost use Rattle.array_book.specs.OpenCommands.{open_commands, open_tasks};
 mod endings;
 mod open_commands;
 mod openings;
-mod steps;
 
 use crate::commands::endings::Endings;
 use crate::commands::open_commands::{OpenCommand, OpenCommands};
 use crate::commands::openings::Openings;
-use crate::commands::steps::{CommandStep, step_of};
 use array_journal::{Entry, Event, Task};
 use blocks_core::Memory;
 use std::alloc::Global;
@@ -58,36 +56,29 @@ impl Commands {
         }
     }
 
-    /// A command is opened by the entry at a place.
-    fn open(&mut self, command: u32, place: usize) -> Result<(), Memory>
-        ensures { OnOk result ((past : List Entry) (e : Entry) → step_of e ≡ Opens command → length past ≡ place
+    /// A command is opened by the entry at a place. After want of memory what is known is as it was.
+    pub fn open(&mut self, command: u32, place: usize) -> Result<(), Memory>
+        ensures ok { OnOk result ((past : List Entry) (e : Entry) → step_of e ≡ Opens command → length past ≡ place
             → KeepsCommands past self.old → KeepsCommands (e ∷ past) self.new) }
+        ensures err { OnErr result ((past : List Entry) → KeepsCommands past self.old → KeepsCommands past self.new) }
     {
         let ended = self.endings.has_ended(command);
+        self.open_commands.reserve()?;
         self.openings.add(command, place)?;
         self.open_commands
-            .add(OpenCommand { command, place }, ended)?;
+            .add(OpenCommand { command, place }, ended);
         Ok(())
     }
 
-    fn end(&mut self, command: u32, done: bool) -> Result<(), Memory>
-        ensures { OnOk result ((past : List Entry) (e : Entry) → step_of e ≡ Ends command done
+    /// A command ends. After want of memory what is known is as it was.
+    pub fn end(&mut self, command: u32, done: bool) -> Result<(), Memory>
+        ensures ok { OnOk result ((past : List Entry) (e : Entry) → step_of e ≡ Ends command done
             → KeepsCommands past self.old → KeepsCommands (e ∷ past) self.new) }
+        ensures err { OnErr result ((past : List Entry) → KeepsCommands past self.old → KeepsCommands past self.new) }
     {
         self.endings.add(command, done)?;
         self.open_commands.end(command);
         Ok(())
-    }
-
-    /// One more entry, which stands at a place.
-    pub fn add(&mut self, place: usize, entry: &Entry) -> Result<(), Memory>
-        ensures { OnOk result ((past : List Entry) → length past ≡ place → KeepsCommands past self.old → KeepsCommands (entry.now ∷ past) self.new) }
-    {
-        match step_of(entry) {
-            CommandStep::Opens { command } => self.open(command, place),
-            CommandStep::Ends { command, done } => self.end(command, done),
-            CommandStep::Neither => Ok(()),
-        }
     }
 
     /// How many commands were opened.

@@ -2,7 +2,6 @@
 
 ghost use Rattle.std.specs.Prelude.{◌≡◌, reverse};
 ghost use Rattle.array_journal.specs.Decision.{missing_count};
-ghost use Rattle.array_journal.specs.Listed.{is_listed};
 ghost use Rattle.array_journal.specs.Run.{IsSetting};
 ghost use Rattle.array_book.specs.BookStates.{KeepsBook};
 ghost use Rattle.array_book.specs.Decisions.{facts_of};
@@ -26,25 +25,17 @@ impl BookState {
         count
     }
 
-    /// The facts about a target of a stripe. Whether the stripe is listed is told by whoever keeps the
-    /// list of these.
-    pub fn facts(
-        &self,
-        setting: &Setting,
-        entries: &[Entry],
-        listed: bool,
-        stripe: u32,
-        target: usize,
-    ) -> Facts
+    /// The facts about a target of a stripe.
+    pub fn facts(&self, setting: &Setting, entries: &[Entry], stripe: u32, target: usize) -> Facts
         requires setting { IsSetting setting.now }
         requires state { KeepsBook (reverse entries.now) self.now }
-        requires listed { listed ≡ is_listed stripe (reverse entries.now) }
         ensures { result ≡ facts_of setting.now stripe target (reverse entries.now) }
     {
         let parity = usize::from(setting.geometry.parity(stripe));
         let missing = self.is_missing(entries, target, stripe);
         let missing_count = self.missing_count(setting, entries, stripe);
         let parity_missing = self.is_missing(entries, parity, stripe);
+        let listed = self.is_listed(stripe);
         let unfitted = self.is_unfitted(target);
         Facts {
             missing,

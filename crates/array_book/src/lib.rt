@@ -1,19 +1,33 @@
-//! The state of the book of a parity array, and what the book decides. The state is what the book's
-//! entries say: which commands are open, what became of the slots, which units are missing. It is kept
-//! by whoever writes such entries and by whoever judges them, so that both answer alike.
+//! The book of a parity array: the one place that opens and ends commands, notes losses, swaps disks and lists
+//! stripes. Its state is what its entries say: which commands are open, what became of the slots, which units are
+//! missing, which stripes are listed. It is kept by the book and by whoever judges its entries, so that both answer
+//! alike.
 #![tactic(auto)]
 
+mod answers;
+mod asks;
+mod beginning;
 mod commands;
 mod conflicts;
 mod decision;
+mod dirty;
+mod ending;
 mod facts;
 pub mod laws;
+mod ledger;
 mod missing;
-mod noted;
+mod noted_slots;
+mod questions;
+mod records;
 mod room;
+mod slot_calls;
 mod slots;
 mod state;
+mod steps;
 
+pub use answers::{Begun, End, Noted, Swapped};
+pub use asks::{Ask, Want};
 pub use conflicts::do_tasks_conflict;
 pub use decision::{Facts, decide};
+pub use ledger::Book;
 pub use state::BookState;

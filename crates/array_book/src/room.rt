@@ -11,7 +11,7 @@ use crate::state::BookState;
 use array_journal::{Entry, Kind, Setting, Task, gatherer};
 
 /// The target whose buffer a command will hold blocks in.
-fn holder_of(setting: &Setting, task: &Task) -> Option<usize>
+pub(crate) fn holder_of(setting: &Setting, task: &Task) -> Option<usize>
     ensures { result ≡ holder_of setting.now task.now.kind task.now }
 {
     let waits = setting.mode.update_needs_room();
@@ -23,7 +23,7 @@ fn holder_of(setting: &Setting, task: &Task) -> Option<usize>
     }
 }
 
-fn does_hold_at(setting: &Setting, target: usize, task: &Task) -> bool
+pub(crate) fn does_hold_at(setting: &Setting, target: usize, task: &Task) -> bool
     ensures { result ≡ holds_at setting.now target task.now }
 {
     match holder_of(setting, task) {

@@ -1,74 +1,20 @@
-//! Slots whose losses were noted, and whose disks were swapped.
+//! Slots whose disks were swapped.
 
-ghost use Rattle.std.specs.Prelude.{◌≡◌, ◌∷◌, ◌++◌, [], List, ℕ, OnOk, count_by, nat_lt, if◌then◌else◌, false};
-ghost use Rattle.std.specs.Ordering.{nat_cmp};
-ghost use Rattle.std.specs.Option.{unwrap_or};
-ghost use Rattle.std.specs.BTreeMap.{get};
+ghost use Rattle.std.specs.Prelude.{◌≡◌, ◌==◌, ◌∷◌, ◌++◌, [], List, ℕ, OnOk, OnErr, count_by, nat_lt, if◌then◌else◌};
 ghost use Rattle.array_journal.specs.declared.entry.Entry.{Entry};
 ghost use Rattle.array_journal.specs.Entries.{count_before};
-ghost use Rattle.array_journal.specs.Lives.{swap_count, is_unfitted, is_swap_of};
-ghost use Rattle.array_book.specs.Slots.{KeepsSlots, noted_slot, swapped_slot, is_slot, stamps_at};
+ghost use Rattle.array_journal.specs.Lives.{swap_count, is_swap_of};
+ghost use Rattle.array_book.specs.Slots.{KeepsSlots, stamps_at};
 
-use array_journal::{Entry, Event};
 use blocks_core::Memory;
 use std::alloc::Global;
 use std::collections::BTreeMap;
 
-/// What the book knows of the slots.
+/// What the book knows of swaps.
 #[derive(Debug, Drop)]
 pub struct Slots {
-    /// Whether the newest note or swap of a slot is a note.
-    unfitted: BTreeMap<usize, bool>,
     /// The stamps of a slot's swaps, the oldest first.
     swaps: BTreeMap<usize, Vec<u64>>,
-}
-
-fn noted_slot(event: &Event) -> Option<usize>
-    ensures { result ≡ noted_slot event.now }
-{
-    match event {
-        Event::Note { slot, .. } => Some(usize::from(*slot)),
-        _ => None,
-    }
-}
-
-fn swapped_slot(event: &Event) -> Option<usize>
-    ensures { result ≡ swapped_slot event.now }
-{
-    match event {
-        Event::Swap { slot, .. } => Some(usize::from(*slot)),
-        _ => None,
-    }
-}
-
-/// Says of a slot, if there is one, whether it is unfitted.
-fn set_unfitted(
-    unfitted: &mut BTreeMap<usize, bool>,
-    slot: Option<usize>,
-    value: bool,
-) -> Result<(), Memory>
-    ensures { OnOk result ((i : ℕ) → unwrap_or (get nat_cmp unfitted.new i) false ≡ (if is_slot i slot then value else unwrap_or (get nat_cmp unfitted.old i) false)) }
-{
-    if let Some(slot) = slot {
-        unfitted.insert(slot, value)?;
-    }
-    Ok(())
-}
-
-/// Puts a stamp at the end of those of a slot, if there is one.
-fn push_stamp(
-    swaps: &mut BTreeMap<usize, Vec<u64>>,
-    alloc: Global,
-    slot: Option<usize>,
-    stamp: u64,
-) -> Result<(), Memory>
-    ensures { OnOk result ((i : ℕ) → stamps_at swaps.new i ≡ (if is_slot i slot then stamps_at swaps.old i ++ stamp ∷ [] else stamps_at swaps.old i)) }
-{
-    if let Some(slot) = slot {
-        let stamps = swaps.entry(slot)?.or_insert(Vec::new(alloc));
-        stamps.push(stamp)?;
-    }
-    Ok(())
 }
 
 /// How many stamps are below another.
@@ -84,22 +30,24 @@ impl Slots {
         ensures { KeepsSlots [] result }
     {
         Slots {
-            unfitted: BTreeMap::new(alloc),
             swaps: BTreeMap::new(alloc),
         }
     }
 
-    /// One more entry.
-    pub fn add(&mut self, alloc: Global, entry: &Entry) -> Result<(), Memory>
-        ensures { OnOk result ((past : List Entry) → KeepsSlots past self.old → KeepsSlots (entry.now ∷ past) self.new) }
+    /// A slot gets a new disk, under a stamp.
+    pub fn swap(&mut self, alloc: Global, slot: usize, stamp: u64) -> Result<(), Memory>
+        ensures ok { OnOk result ((i : ℕ) → stamps_at self.new.swaps i ≡ (if slot == i then stamps_at self.old.swaps i ++ stamp ∷ [] else stamps_at self.old.swaps i)) }
+        ensures err { OnErr result ((i : ℕ) → stamps_at self.new.swaps i ≡ stamps_at self.old.swaps i) }
     {
-        if entry.lock != 0 {
-            return Ok(());
+        match self.swaps.get_mut(&slot) {
+            Some(stamps) => stamps.push(stamp)?,
+            None => {
+                let mut stamps = Vec::new(alloc);
+                stamps.push(stamp)?;
+                self.swaps.insert(slot, stamps)?;
+            }
         }
-        let swapped = swapped_slot(&entry.event);
-        push_stamp(&mut self.swaps, alloc, swapped, entry.stamp)?;
-        set_unfitted(&mut self.unfitted, swapped, false)?;
-        set_unfitted(&mut self.unfitted, noted_slot(&entry.event), true)
+        Ok(())
     }
 
     /// The stamps of a slot's swaps, the oldest first.
@@ -117,13 +65,6 @@ impl Slots {
         ensures { (past : List Entry) → KeepsSlots past self.now → result ≡ swap_count slot past }
     {
         self.stamps_at(slot).len()
-    }
-
-    /// Whether the newest note or swap of a slot is a note.
-    pub fn is_unfitted(&self, slot: usize) -> bool
-        ensures { (past : List Entry) → KeepsSlots past self.now → result ≡ is_unfitted slot past }
-    {
-        self.unfitted.get(&slot).copied().unwrap_or(false)
     }
 
     /// How often the book swapped a slot's disk under a smaller stamp.

@@ -1,19 +1,20 @@
 //! The state of the book: what its entries so far say.
 
-ghost use Rattle.std.specs.Prelude.{◌≡◌, List, OnOk, [], ◌∷◌, length, reverse, slice_get, option_map};
+ghost use Rattle.std.specs.Prelude.{◌≡◌, List, [], length, reverse, slice_get, option_map};
 ghost use Rattle.std.specs.Option.{option_copied};
 ghost use Rattle.array_journal.specs.declared.entry.Entry.{Entry};
 ghost use Rattle.array_journal.specs.Commands.{is_open, open_count, task_of};
 ghost use Rattle.array_journal.specs.Entries.{some_at, count_before};
+ghost use Rattle.array_journal.specs.Listed.{is_listed};
 ghost use Rattle.array_journal.specs.Lives.{closes_done, swap_count, is_unfitted, is_swap_of};
 ghost use Rattle.array_book.specs.BookStates.{KeepsBook};
 ghost use Rattle.array_book.specs.OpenCommands.{open_commands, open_tasks};
 
 use crate::commands::Commands;
-use crate::noted::NotedSlots;
+use crate::dirty::DirtyStripes;
+use crate::noted_slots::NotedSlots;
 use crate::slots::Slots;
 use array_journal::{Entry, Task};
-use blocks_core::Memory;
 use std::alloc::Global;
 
 /// What the book's entries so far say of commands, slots and units. Entries of other locks change
@@ -26,6 +27,7 @@ pub struct BookState {
     pub(crate) commands: Commands,
     pub(crate) slots: Slots,
     pub(crate) noted: NotedSlots,
+    pub(crate) dirty: DirtyStripes,
 }
 
 impl BookState {
@@ -37,18 +39,8 @@ impl BookState {
             commands: Commands::new(alloc),
             slots: Slots::new(alloc),
             noted: NotedSlots::new(alloc),
+            dirty: DirtyStripes::new(alloc),
         }
-    }
-
-    /// Takes one more entry in, which stands at a place among the entries. After want of memory the
-    /// state is that of no entries any more.
-    pub fn add(&mut self, alloc: Global, place: usize, entry: &Entry) -> Result<(), Memory>
-        ensures { OnOk result ((past : List Entry) → length past ≡ place → KeepsBook past self.old → KeepsBook (entry.now ∷ past) self.new) }
-    {
-        self.commands.add(place, entry)?;
-        self.slots.add(alloc, entry)?;
-        self.noted.add(alloc, entry)?;
-        Ok(())
     }
 
     /// How many commands were opened.
@@ -104,6 +96,13 @@ impl BookState {
         self.commands.open_task(entries, place)
     }
 
+    /// Whether a stripe is listed.
+    pub fn is_listed(&self, stripe: u32) -> bool
+        ensures { (past : List Entry) → KeepsBook past self.now → result ≡ is_listed stripe past }
+    {
+        self.dirty.is_listed(stripe)
+    }
+
     /// How often a slot's disk was swapped: the life that its next disk has.
     pub fn swap_count(&self, slot: usize) -> usize
         ensures { (past : List Entry) → KeepsBook past self.now → result ≡ swap_count slot past }
@@ -115,7 +114,7 @@ impl BookState {
     pub fn is_unfitted(&self, slot: usize) -> bool
         ensures { (past : List Entry) → KeepsBook past self.now → result ≡ is_unfitted slot past }
     {
-        self.slots.is_unfitted(slot)
+        self.noted.is_unfitted(slot)
     }
 
     /// How often a slot's disk was swapped under a smaller stamp.

@@ -1,19 +1,19 @@
 //! Which commands ended.
 
-ghost use Rattle.std.specs.Prelude.{◌≡◌, ◌==◌, ◌||◌, ◌&&◌, ℕ, OnOk, []};
-ghost use Rattle.std.specs.BTreeSet.{contains};
+ghost use Rattle.std.specs.Prelude.{◌≡◌, ◌==◌, ◌||◌, ◌&&◌, ℕ, OnOk, OnErr, [], is_some};
+ghost use Rattle.std.specs.BTreeMap.{get};
+ghost use Rattle.std.specs.Option.{unwrap_or};
 ghost use Rattle.std.specs.Ordering.{nat_cmp};
-ghost use Rattle.array_book.specs.Endings.{KeepsEndings};
+ghost use Rattle.array_book.specs.Endings.{KeepsEndings, has_ended_in, is_done_in};
 
 use blocks_core::Memory;
 use std::alloc::Global;
-use std::collections::BTreeSet;
+use std::collections::BTreeMap;
 
-/// The commands that ended, and those of them that are closed as done.
+/// The commands that ended, each with whether it is closed as done.
 #[derive(Debug, Drop)]
 pub struct Endings {
-    ended: BTreeSet<u32>,
-    done: BTreeSet<u32>,
+    ended: BTreeMap<u32, bool>,
 }
 
 impl Endings {
@@ -22,33 +22,32 @@ impl Endings {
         ensures { KeepsEndings [] result }
     {
         Endings {
-            ended: BTreeSet::new(alloc),
-            done: BTreeSet::new(alloc),
+            ended: BTreeMap::new(alloc),
         }
     }
 
-    /// One more end of a command.
+    /// One more end of a command. A command that is closed as done stays so, whatever ends it again.
     pub fn add(&mut self, command: u32, done: bool) -> Result<(), Memory>
-        ensures ended { OnOk result ((c : ℕ) → contains nat_cmp self.new.ended c ≡ ((command == c) || contains nat_cmp self.old.ended c)) }
-        ensures done { OnOk result ((c : ℕ) → contains nat_cmp self.new.done c ≡ ((done && (command == c)) || contains nat_cmp self.old.done c)) }
+        ensures ended { OnOk result ((c : ℕ) → has_ended_in self.new c ≡ ((command == c) || has_ended_in self.old c)) }
+        ensures done { OnOk result ((c : ℕ) → is_done_in self.new c ≡ ((done && (command == c)) || is_done_in self.old c)) }
+        ensures ended_err { OnErr result ((c : ℕ) → has_ended_in self.new c ≡ has_ended_in self.old c) }
+        ensures done_err { OnErr result ((c : ℕ) → is_done_in self.new c ≡ is_done_in self.old c) }
     {
-        self.ended.insert(command)?;
-        if done {
-            self.done.insert(command)?;
-        }
+        let before = self.is_done(command);
+        self.ended.insert(command, done || before)?;
         Ok(())
     }
 
     pub fn has_ended(&self, command: u32) -> bool
-        ensures { result ≡ contains nat_cmp self.now.ended command }
+        ensures { result ≡ has_ended_in self.now command }
     {
-        self.ended.contains(&command)
+        self.ended.contains_key(&command)
     }
 
     /// Whether a command is closed as done.
     pub fn is_done(&self, command: u32) -> bool
-        ensures { result ≡ contains nat_cmp self.now.done command }
+        ensures { result ≡ is_done_in self.now command }
     {
-        self.done.contains(&command)
+        self.ended.get(&command).copied().unwrap_or(false)
     }
 }

@@ -1,6 +1,6 @@
 //! Openings whose commands are open.
 
-ghost use Rattle.std.specs.Prelude.{◌≡◌, ◌==◌, ◌++◌, not, OnOk, [], ◌∷◌, filter, length, slice_get, if◌then◌else◌};
+ghost use Rattle.std.specs.Prelude.{◌≡◌, ◌==◌, ◌++◌, ◌<◌, not, OnOk, [], ◌∷◌, filter, length, slice_get, vec_len, vec_capacity, if◌then◌else◌};
 ghost use Rattle.std.specs.Option.{option_copied};
 ghost use Rattle.array_book.specs.OpenCommands.{KeepsOpen};
 
@@ -30,14 +30,24 @@ impl OpenCommands {
         }
     }
 
+    /// Makes room for one more opening, so that it can be added without taking memory.
+    pub fn reserve(&mut self) -> Result<(), Memory>
+        ensures same { self.new.openings.items ≡ self.old.openings.items }
+        ensures room { OnOk result (vec_len self.new.openings < vec_capacity self.new.openings) }
+    {
+        self.openings.reserve(1)?;
+        Ok(())
+    }
+
     /// One more opening, unless its command ended already.
-    pub fn add(&mut self, opening: OpenCommand, ended: bool) -> Result<(), Memory>
-        ensures { OnOk result (self.new.openings.items ≡ self.old.openings.items ++ (if ended then [] else opening ∷ [])) }
+    pub fn add(&mut self, opening: OpenCommand, ended: bool)
+        requires { vec_len self.old.openings < vec_capacity self.old.openings }
+        ensures { self.new.openings.items ≡ self.old.openings.items ++ (if ended then [] else opening ∷ []) }
     {
         if !ended {
-            self.openings.push(opening)?;
+            // There is room for it, so this can't want memory.
+            self.openings.push(opening).unwrap();
         }
-        Ok(())
     }
 
     /// Takes out each opening of a command.

@@ -1,6 +1,6 @@
 //! Where the opening of each command stands.
 
-ghost use Rattle.std.specs.Prelude.{◌≡◌, ◌==◌, ◌+◌, ℕ, OnOk, [], Some, if◌then◌else◌};
+ghost use Rattle.std.specs.Prelude.{◌≡◌, ◌==◌, ◌+◌, ℕ, OnOk, OnErr, [], Some, if◌then◌else◌};
 ghost use Rattle.std.specs.BTreeMap.{get};
 ghost use Rattle.std.specs.Ordering.{nat_cmp};
 ghost use Rattle.array_book.specs.Openings.{KeepsOpenings};
@@ -31,6 +31,8 @@ impl Openings {
     pub fn add(&mut self, command: u32, place: usize) -> Result<(), Memory>
         ensures places { OnOk result ((c : ℕ) → get nat_cmp self.new.places c ≡ (if command == c then Some place else get nat_cmp self.old.places c)) }
         ensures count { OnOk result (self.new.count ≡ self.old.count + 1) }
+        ensures places_err { OnErr result ((c : ℕ) → get nat_cmp self.new.places c ≡ get nat_cmp self.old.places c) }
+        ensures count_err { OnErr result (self.new.count ≡ self.old.count) }
     {
         // More openings than a usize counts don't lie in memory: so the answer is want of memory, and no
         // condition on each caller.
