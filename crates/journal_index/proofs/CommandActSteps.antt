@@ -8,7 +8,8 @@ use Rattle.array_journal.specs.declared.event.Event.{Event}
 use Rattle.array_journal.specs.declared.event.Event.TheVariants.{Fetch, Put, Diff, Take, Fold, Hold, Shut}
 use Rattle.journal_index.specs.declared.acts_done.ActsDone.{ActsDone}
 use Rattle.journal_index.specs.declared.command_acts.CommandActs.{CommandActs}
-use Rattle.journal_index.specs.CommandActs.{KeepsActs, actor, with_act, none_done}
+use Rattle.array_journal.specs.ActEvents.{actor}
+use Rattle.journal_index.specs.CommandActs.{KeepsActs, with_act, none_done}
 use Rattle.journal_index.specs.ActsDone.{acts_done}
 use Rattle.journal_index.specs.Keys.{pair_cmp}
 use Rattle.journal_index.proofs.Keys.{tied-pairs}

@@ -4,14 +4,14 @@ use Rattle.std.proofs.lemmas.Bool.{cases_lt, lt-ltb, le-ltb, le-leb, lt-leb}
 use Rattle.array_journal.specs.declared.at.At.{At}
 use Rattle.array_journal.specs.declared.entry.Entry.{Entry}
 use Rattle.array_journal.specs.declared.event.Event.{Event}
-use Rattle.array_journal.specs.declared.event.Event.TheVariants.{Fresh, Wiped, Diff, Hold}
-use Rattle.array_journal.specs.declared.event.What.TheVariants.{Request}
+use Rattle.array_journal.specs.declared.event.Event.TheVariants.{Fresh}
 use Rattle.array_journal.specs.Entries.{name_of, some_at}
-use Rattle.array_journal.specs.Lives.{is_fresh, loss_of, loss_after, life_of}
+use Rattle.array_journal.specs.Lives.{is_fresh, loss_of, loss_after, life_of, life_after}
 use Rattle.array_journal.specs.Media.{drops, drops_after}
 use Rattle.array_journal.specs.May.{swapped_since}
+use Rattle.array_journal.proofs.lives.DiskCounts.{counted-more, drops-more}
 use Rattle.journal_index.specs.Stamps.{greater_of}
-use Rattle.journal_index.specs.Disks.{life_after, swap_after, disk_after, disk_at, reaches}
+use Rattle.journal_index.specs.Disks.{swap_after, disk_after, disk_at, reaches}
 use Rattle.journal_index.specs.declared.disks.Disk.{Disk}
 
 loss_step : (b : Bool) (at : At) (event : Event) (disk : Disk) (loss : Option At) → loss ≡ disk.loss →
@@ -96,13 +96,9 @@ swapped-disk lock opened [] = refl
 swapped-disk lock opened (e ∷ past) =
     swap_step (e.lock == lock) (name_of e) e.event (disk_at lock past) opened (some_at lock (swapped_since opened) past) (swapped-disk lock opened past)
 
-chosen_small : (b : Bool) (n m : ℕ) → n ≤ m → cond b (suc n) n ≤ suc m
-chosen_small true n m h = omega (arith, h)
-chosen_small false n m h = omega (arith, h)
-
 life_small : (b : Bool) (at : At) (event : Event) (disk : Disk) (m : ℕ) → disk.life ≤ m →
     (cond b (disk_after at event disk) disk).life ≤ suc m
-life_small true at event disk m h = chosen_small (is_fresh event) disk.life m h
+life_small true at event disk m h = counted-more (is_fresh event) disk.life m h
 life_small false at event disk m h = omega (arith, h)
 
 -- no more fresh disks came than entries
@@ -110,15 +106,9 @@ pub life-le : (lock : ℕ) (past : List Entry) → (disk_at lock past).life ≤ 
 life-le lock [] = omega arith
 life-le lock (e ∷ past) = life_small (e.lock == lock) (name_of e) e.event (disk_at lock past) (length past) (life-le lock past)
 
-drops_more : (event : Event) (n m : ℕ) → n ≤ m → drops_after event n ≤ suc m
-drops_more (Wiped Request call commands) n m h = omega (arith, h)
-drops_more (Diff command opened cdb row bytes true dropped back) n m h = omega (arith, h)
-drops_more (Hold command opened cdb row bytes false names false) n m h = omega (arith, h)
-drops_more _ n m h = omega (arith, h)
-
 drops_small : (b : Bool) (at : At) (event : Event) (disk : Disk) (m : ℕ) → disk.drops ≤ m →
     (cond b (disk_after at event disk) disk).drops ≤ suc m
-drops_small true at event disk m h = drops_more event disk.drops m h
+drops_small true at event disk m h = drops-more event disk.drops m h
 drops_small false at event disk m h = omega (arith, h)
 
 -- no more requests are to be dropped than entries came

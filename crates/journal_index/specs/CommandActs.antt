@@ -1,5 +1,5 @@
 -- How the acts of commands go over one more entry.
-use Rattle.std.specs.Prelude.{◌≡◌, ℕ, true, false, List, Option, Some, None}
+use Rattle.std.specs.Prelude.{◌≡◌, ℕ, true, false, List}
 use Rattle.std.specs.Option.{unwrap_or}
 use Rattle.std.specs.BTreeMap.{get}
 use Rattle.array_journal.specs.declared.entry.Entry.{Entry}
@@ -12,17 +12,6 @@ use Rattle.journal_index.specs.Keys.{pair_cmp}
 
 abbrev pub none_done : ActsDone
 none_done = record { fetched = false; put = false; diffed = false; taken = false; folded = false; held = false; shut = false }
-
--- the command that acts or is shut by an event
-abbrev pub actor : Event → Option ℕ
-actor (Fetch command opened cdb row bytes) = Some command
-actor (Put command opened cdb row bytes names) = Some command
-actor (Diff command opened cdb row bytes sent dropped back) = Some command
-actor (Take command opened cdb row bytes) = Some command
-actor (Fold command opened cdb row bytes names) = Some command
-actor (Hold command opened cdb row bytes kept names back) = Some command
-actor (Shut command opened acted lost) = Some command
-actor _ = None
 
 -- acts, and that of one more event
 abbrev pub with_act : Event → ActsDone → ActsDone

@@ -1,5 +1,5 @@
 -- What became of disks. A list of entries called past has the newest entry first.
-use Rattle.std.specs.Prelude.{◌≡◌, ◌==◌, nat_le, ℕ, suc, Bool, false, List, [], ◌∷◌, Option, Some, None, if◌then◌else◌}
+use Rattle.std.specs.Prelude.{◌≡◌, ◌==◌, nat_le, ℕ, Bool, false, List, [], ◌∷◌, Option, Some, None, if◌then◌else◌}
 use Rattle.std.specs.Ordering.{nat_cmp}
 use Rattle.std.specs.Option.{unwrap_or}
 use Rattle.std.specs.BTreeMap.{get}
@@ -8,7 +8,7 @@ use Rattle.array_journal.specs.declared.entry.Entry.{Entry}
 use Rattle.array_journal.specs.declared.event.Event.{Event}
 use Rattle.array_journal.specs.declared.event.Event.TheVariants.{Fresh}
 use Rattle.array_journal.specs.Entries.{name_of}
-use Rattle.array_journal.specs.Lives.{is_fresh, loss_after}
+use Rattle.array_journal.specs.Lives.{loss_after, life_after}
 use Rattle.array_journal.specs.Media.{drops_after}
 use Rattle.journal_index.specs.Stamps.{greater_of}
 use Rattle.journal_index.specs.declared.disks.Disk.{Disk}
@@ -17,10 +17,6 @@ use Rattle.journal_index.specs.declared.disks.Disks.{Disks}
 -- the disk that a target begins with
 abbrev pub new_disk : Disk
 new_disk = record { loss = None; life = 0; drops = 0; swap = None }
-
--- how many fresh disks came, after an event
-abbrev pub life_after : Event → ℕ → ℕ
-life_after event life = if is_fresh event then suc life else life
 
 -- the greatest stamp of the swaps that fresh disks came for, after an event
 abbrev pub swap_after : Event → Option ℕ → Option ℕ

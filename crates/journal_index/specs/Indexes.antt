@@ -4,7 +4,6 @@ use Rattle.array_journal.specs.declared.entry.Entry.{Entry}
 use Rattle.array_book.specs.BookStates.{KeepsBook}
 use Rattle.journal_index.specs.declared.index.Index.{Index}
 use Rattle.journal_index.specs.CommandActs.{KeepsActs}
-use Rattle.journal_index.specs.Dirty.{KeepsListed}
 use Rattle.journal_index.specs.Disks.{KeepsDisks}
 use Rattle.journal_index.specs.Names.{KeepsNames}
 use Rattle.journal_index.specs.Stamps.{KeepsStamps}
@@ -16,4 +15,3 @@ pub record IsIndexOf (past : List Entry) (index : Index) : Type 0 where
   pub disks : KeepsDisks past index.disks
   pub book : KeepsBook past index.book
   pub acts : KeepsActs past index.acts
-  pub dirty : KeepsListed past index.dirty

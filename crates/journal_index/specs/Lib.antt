@@ -4,5 +4,4 @@ pub mod Stamps
 pub mod Disks
 pub mod ActsDone
 pub mod CommandActs
-pub mod Dirty
 pub mod Indexes

@@ -2,7 +2,7 @@
 
 ghost use Rattle.std.specs.Prelude.{◌≡◌, [], ◌∷◌, List, OnOk};
 ghost use Rattle.array_journal.specs.declared.entry.Entry.{Entry};
-ghost use Rattle.journal_index.specs.CommandActs.{KeepsActs, actor, with_act, none_done};
+ghost use Rattle.journal_index.specs.CommandActs.{KeepsActs, with_act, none_done};
 ghost use Rattle.journal_index.specs.ActsDone.{acts_done};
 
 use crate::acts_done::ActsDone;
@@ -44,16 +44,6 @@ fn with_act(event: &Event, before: ActsDone) -> ActsDone
     acts
 }
 
-/// The command that acts or is shut by an event.
-fn actor(event: &Event) -> Option<u32>
-    ensures { result ≡ actor event.now }
-{
-    match event {
-        Event::Shut { command, .. } => Some(*command),
-        _ => Some(event.act()?.command),
-    }
-}
-
 /// The acts of commands, by the lock that their entries stand at and the command.
 #[derive(Debug, Drop)]
 pub struct CommandActs {
@@ -84,7 +74,7 @@ impl CommandActs {
     pub fn add(&mut self, entry: &Entry) -> Result<(), Memory>
         ensures { OnOk result ((past : List Entry) → KeepsActs past self.old → KeepsActs (entry.now ∷ past) self.new) }
     {
-        if let Some(command) = actor(&entry.event) {
+        if let Some(command) = entry.event.actor() {
             let before = self.acts_done(entry.lock, command);
             let acts = with_act(&entry.event, before);
             self.kept.insert((entry.lock, command), acts)?;

@@ -1,18 +1,20 @@
 //! What became of the disk at each target.
 
-ghost use Rattle.std.specs.Prelude.{◌≡◌, ◌∷◌, ◌+◌, ◌<◌, [], List, length, OnOk};
+ghost use Rattle.std.specs.Prelude.{◌≡◌, ◌∷◌, ◌+◌, ◌<◌, [], List, length, OnOk, IsFalse};
+ghost use Rattle.array_journal.specs.declared.at.At.{At};
+ghost use Rattle.journal_index.specs.declared.disks.Disk.{Disk};
 ghost use Rattle.std.specs.Ordering.{nat_cmp};
 ghost use Rattle.std.specs.Option.{unwrap_or};
 ghost use Rattle.std.specs.BTreeMap.{get};
 ghost use Rattle.array_journal.specs.declared.entry.Entry.{Entry};
 ghost use Rattle.array_journal.specs.Entries.{name_of, some_at};
-ghost use Rattle.array_journal.specs.Lives.{loss_after, loss_of, life_of};
-ghost use Rattle.array_journal.specs.Media.{drops_after, drops};
+ghost use Rattle.array_journal.specs.Lives.{loss_of, life_of};
+ghost use Rattle.array_journal.specs.Media.{drops};
 ghost use Rattle.array_journal.specs.May.{swapped_since};
-ghost use Rattle.journal_index.specs.Disks.{KeepsDisks, new_disk, disk_after, life_after, swap_after, reaches};
+ghost use Rattle.journal_index.specs.Disks.{KeepsDisks, new_disk, disk_after, swap_after, reaches};
 
 use crate::stamps::greater_of;
-use array_journal::{At, Entry, Event, What};
+use array_journal::{At, Entry, Event};
 use blocks_core::Memory;
 use std::alloc::Global;
 use std::collections::BTreeMap;
@@ -36,51 +38,6 @@ pub struct Disks {
     disks: BTreeMap<usize, Disk>,
 }
 
-/// The newest loss after an entry of the target's lock.
-fn loss_after(entry: &Entry, old: Option<At>) -> Option<At>
-    ensures { result ≡ loss_after (name_of entry.now) entry.now.event old }
-{
-    match &entry.event {
-        Event::Gone { .. } => Some(At {
-            stamp: entry.stamp,
-            lock: entry.lock,
-        }),
-        Event::Fresh { .. } => None,
-        _ => old,
-    }
-}
-
-/// How many fresh disks came after an event. Each is an entry that lies in memory, so the count stays below
-/// 2^63 and doesn't saturate: a checked sum would need an answer for what can't come.
-fn life_after(event: &Event, life: usize) -> usize
-    ensures { life < 9223372036854775808 → result ≡ life_after event.now life }
-{
-    match event {
-        Event::Fresh { .. } => life.saturating_add(1),
-        _ => life,
-    }
-}
-
-/// How many requests are to be dropped after an event, of so many before it. The sum doesn't saturate, as
-/// that of `life_after`.
-fn drops_after(event: &Event, count: usize) -> usize
-    ensures { count < 9223372036854775808 → result ≡ drops_after event.now count }
-{
-    match event {
-        Event::Wiped {
-            what: What::Request,
-            ..
-        } => count.saturating_add(1),
-        Event::Diff { sent: true, .. }
-        | Event::Hold {
-            kept: false,
-            back: false,
-            ..
-        } => count.saturating_sub(1),
-        _ => count,
-    }
-}
-
 /// The greatest stamp of the swaps that fresh disks came for, after an event.
 fn swap_after(event: &Event, old: Option<u64>) -> Option<u64>
     ensures { result ≡ swap_after event.now old }
@@ -95,12 +52,30 @@ fn swap_after(event: &Event, old: Option<u64>) -> Option<u64>
 fn disk_after(entry: &Entry, disk: Disk) -> Disk
     ensures { disk.life < 9223372036854775808 → disk.drops < 9223372036854775808 → result ≡ disk_after (name_of entry.now) entry.now.event disk }
 {
+    let at = At {
+        stamp: entry.stamp,
+        lock: entry.lock,
+    };
     Disk {
-        loss: loss_after(entry, disk.loss),
-        life: life_after(&entry.event, disk.life),
-        drops: drops_after(&entry.event, disk.drops),
+        loss: entry.event.loss_after(at, disk.loss),
+        life: entry.event.life_after(disk.life),
+        drops: entry.event.drops_after(disk.drops),
         swap: swap_after(&entry.event, disk.swap),
     }
+}
+
+/// Whether an event may change what became of a disk. Most can't, and so cost no lookup.
+fn changes_disk(event: &Event) -> bool
+    ensures { IsFalse result → (at : At) (disk : Disk) → disk_after at event.now disk ≡ disk }
+{
+    matches!(
+        event,
+        Event::Gone { .. }
+            | Event::Fresh { .. }
+            | Event::Wiped { .. }
+            | Event::Diff { .. }
+            | Event::Hold { .. }
+    )
 }
 
 /// Whether there is a stamp that isn't below another.
@@ -142,9 +117,11 @@ impl Disks {
     pub fn add(&mut self, entry: &Entry) -> Result<(), Memory>
         ensures { OnOk result ((past : List Entry) → length past < 9223372036854775808 → KeepsDisks past self.old → KeepsDisks (entry.now ∷ past) self.new) }
     {
-        let lock = usize::from(entry.lock);
-        let disk = disk_after(entry, self.at(lock));
-        self.disks.insert(lock, disk)?;
+        if changes_disk(&entry.event) {
+            let lock = usize::from(entry.lock);
+            let disk = disk_after(entry, self.at(lock));
+            self.disks.insert(lock, disk)?;
+        }
         Ok(())
     }
 

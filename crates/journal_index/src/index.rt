@@ -1,18 +1,14 @@
 //! What is kept of the entries so far.
 
 ghost use Rattle.std.specs.Prelude.{◌≡◌, ◌<◌, [], ◌∷◌, OnOk, length, reverse};
-ghost use Rattle.std.specs.Option.{option_copied};
-ghost use Rattle.array_book.specs.BookStates.{KeepsBook};
-ghost use Rattle.journal_index.specs.Dirty.{ended_task};
 ghost use Rattle.journal_index.specs.Indexes.{IsIndexOf};
 
 use crate::command_acts::CommandActs;
-use crate::dirty::DirtyStripes;
 use crate::disks::Disks;
 use crate::names::NameIndex;
 use crate::stamps::Stamps;
 use array_book::BookState;
-use array_journal::{Entry, Event, Task};
+use array_journal::Entry;
 use blocks_core::Memory;
 use std::alloc::Global;
 
@@ -24,19 +20,6 @@ pub struct Index {
     pub(crate) disks: Disks,
     pub(crate) book: BookState,
     pub(crate) acts: CommandActs,
-    pub(crate) dirty: DirtyStripes,
-}
-
-/// The task of the command that an event ends.
-fn ended_task<'a>(book: &BookState, past: &'a [Entry], event: &Event) -> Option<&'a Task>
-    requires { KeepsBook (reverse past.now) book.now }
-    ensures { option_copied result ≡ ended_task event.now (reverse past.now) }
-{
-    match event {
-        Event::Close { command, .. } => book.task_of(past, *command),
-        Event::Spoil { command, .. } => book.task_of(past, *command),
-        _ => None,
-    }
 }
 
 /// The place of the entry after these: a function of its own for the second clause, as entries that lie in
@@ -59,7 +42,6 @@ impl Index {
             disks: Disks::new(alloc),
             book: BookState::new(alloc),
             acts: CommandActs::new(alloc),
-            dirty: DirtyStripes::new(alloc),
         }
     }
 
@@ -70,13 +52,11 @@ impl Index {
         requires { IsIndexOf (reverse past.now) self.old }
         ensures { OnOk result (IsIndexOf (entry.now ∷ reverse past.now) self.new) }
     {
-        let ended = ended_task(&self.book, past, &entry.event);
         let place = place_after(past);
-        self.dirty.add(entry, ended)?;
         self.names.add(place, entry)?;
         self.stamps.add(entry)?;
         self.disks.add(entry)?;
-        self.book.add(alloc, place, entry)?;
+        self.book.add(alloc, past, entry)?;
         self.acts.add(entry)?;
         Ok(())
     }

@@ -6,7 +6,6 @@
 
 mod acts_done;
 mod command_acts;
-mod dirty;
 mod disks;
 mod index;
 mod names;

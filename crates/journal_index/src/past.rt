@@ -186,7 +186,7 @@ impl<'a> Past<'a> {
     pub fn is_listed(&self, stripe: u32) -> bool
         ensures { result ≡ is_listed stripe self.now }
     {
-        self.index.dirty.is_listed(stripe)
+        self.index.book.is_listed(stripe)
     }
 
     /// Whether the book knows that a target's disk was lost, and of no rebuild of its unit since.
@@ -200,10 +200,7 @@ impl<'a> Past<'a> {
         requires { IsSetting setting.now }
         ensures { result ≡ facts_of setting.now stripe target self.now }
     {
-        let listed = self.is_listed(stripe);
-        self.index
-            .book
-            .facts(setting, self.entries, listed, stripe, target)
+        self.index.book.facts(setting, self.entries, stripe, target)
     }
 
     /// The open command that a task conflicts with, of several the one that was opened first.

@@ -6,8 +6,8 @@ use Rattle.journal_index.proofs.Keys.{put_or}
 use Rattle.journal_index.proofs.DiskLaws.{life-le, drops-le}
 use Rattle.journal_index.proofs.disks.Disks.add.Goals as goal
 
-pub returns : goal.returns
-returns c = λ past small keeps lock.
+pub returns-in_ok-insert : goal.returns-in_ok-insert
+returns-in_ok-insert c = λ past small keeps lock.
     let e = c.args.entry.now in
     let key = c.from-lock.result in
     let known = c.at.ensures ∙ keeps key in

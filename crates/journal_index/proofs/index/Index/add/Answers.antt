@@ -8,10 +8,9 @@ returns c =
     let here : length past ≡ c.place_after-place.result = length-reverse c.args.past.now ∙ sym c.place_after-place.ensures.place in
     let short : length past < 9223372036854775808 = subst (λ (n : ℕ). n < 9223372036854775808) (sym here) c.place_after-place.ensures.small in
     record {
-      names = c.in_ok-add-2.ensures past here c.requires.names;
-      stamps = c.in_ok-add-3.ensures past c.requires.stamps;
-      disks = c.in_ok-add-4.ensures past short c.requires.disks;
-      book = c.in_ok-add-5.ensures past here c.requires.book;
-      acts = c.in_ok-add-6.ensures past c.requires.acts;
-      dirty = c.in_ok-add.ensures past c.ended_task-ended.ensures c.requires.dirty;
+      names = c.in_ok-add.ensures past here c.requires.names;
+      stamps = c.in_ok-add-2.ensures past c.requires.stamps;
+      disks = c.in_ok-add-3.ensures past short c.requires.disks;
+      book = c.in_ok-add-4.ensures.ok;
+      acts = c.in_ok-add-5.ensures past c.requires.acts;
     }
