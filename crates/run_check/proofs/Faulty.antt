@@ -1,6 +1,6 @@
 -- A journal read entry by entry is a run as long as each entry may follow.
-use Rattle.std.proofs.Common.{◌≡◌, ℕ, zero, suc, ◌+◌, ◌<◌, true, List, [], ◌∷◌, length, take, get_or, reverse, ap, subst, sym, ◌∙◌, arith}
-use Rattle.std.proofs.lemmas.List.{take_more, reverse-append}
+use Rattle.std.proofs.Common.{◌≡◌, ℕ, zero, suc, ◌+◌, ◌<◌, true, List, [], ◌∷◌, length, take, get_or, reverse, refl, ap, subst, sym, ◌∙◌, arith}
+use Rattle.std.proofs.lemmas.List.{take_more, reverse-append, get_or_read}
 use Rattle.array_journal.specs.declared.entry.Entry.{Entry}
 use Rattle.array_journal.specs.declared.setting.Setting.{Setting}
 use Rattle.array_journal.specs.Entries.{name_of, at_lt}
@@ -8,6 +8,7 @@ use Rattle.array_journal.specs.May.{May}
 use Rattle.array_journal.specs.Merge.{Rises}
 use Rattle.array_journal.specs.Run.{ComesLater, Grows, Run}
 use Rattle.array_journal.proofs.runs.BeginningLaws.{beginning-run}
+use Rattle.run_check.specs.Faults.{IsFirstFault}
 use Rattle.stripe_check.proofs.Journals.{read_more}
 
 rises-at : (journal : List Entry) (j : ℕ) (d : Entry) → Rises journal → suc j < length journal → at_lt (name_of (get_or journal j d)) (name_of (get_or journal (suc j) d)) ≡ true
@@ -34,3 +35,18 @@ run-more s journal k e r lt here m run = subst (Grows s) (sym (read_more journal
 pub no-run : (s : Setting) (journal : List Entry) (k : ℕ) (e : Entry) → k < length journal → get_or journal k e ≡ e →
     (May s (reverse (take k journal)) e → ⊥) → Run s journal → ⊥
 no-run s journal k e lt here refused run = refused (subst (Grows s) (read_more journal k e lt here) (beginning-run s journal (k + 1) run)).0.1
+
+-- and is the first that may not follow the ones before it
+pub is-fault : (s : Setting) (journal : List Entry) (k : ℕ) (e : Entry) → k < length journal → get_or journal k e ≡ e →
+    Run s (take k journal) → (May s (reverse (take k journal)) e → ⊥) → IsFirstFault s journal (k + 1)
+is-fault s journal k e lt here run refused = (
+  k,
+  (
+    refl,
+    record {
+      before = run;
+      within = lt;
+      refused = λ d m. refused (subst (λ (x : Entry). May s (reverse (take k journal)) x) (sym (get_or_read journal k e lt (sym here) d)) m);
+    },
+  ),
+)

@@ -24,4 +24,5 @@ pub mod EntryTest
 pub mod Buffers
 pub mod SentDeltas
 pub mod TargetStates
+pub mod RunStates
 pub mod Faults

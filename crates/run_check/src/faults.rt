@@ -5,11 +5,9 @@ ghost use Rattle.array_journal.specs.Merge.{Rises};
 ghost use Rattle.array_journal.specs.Run.{IsSetting, Run};
 ghost use Rattle.run_check.specs.Faults.{IsFirstFault};
 
-use crate::entry::may_follow;
-use crate::targets::TargetStates;
+use crate::state::RunState;
 use array_journal::{Journal, Setting};
 use blocks_core::Memory;
-use journal_index::{Index, Past};
 use std::alloc::Global;
 
 /// The number, from 1, of the first entry of a journal that may not follow the ones before it. None
@@ -26,16 +24,12 @@ pub fn run_fault(alloc: Global, setting: &Setting, journal: &Journal) -> Result<
     ensures first { IfOk result (λ number. IfSome number (IsFirstFault setting.now journal.now)) }
 {
     let entries = journal.as_slice();
-    let mut states = TargetStates::new(alloc, setting)?;
-    let mut index = Index::new(alloc);
+    let mut state = RunState::new(alloc, setting)?;
     for (place, entry) in entries.iter().enumerate() {
-        let past = Past::new(&entries[..place], &index);
-        let follows = may_follow(alloc, setting, &past, &states, entry)?;
+        let follows = state.follow(alloc, setting, &entries[..place], entry)?;
         if !follows {
             return Ok(Some(place as u32 + 1));
         }
-        states.apply(alloc, setting, entry)?;
-        index.add(alloc, &entries[..place], entry)?;
     }
     Ok(None)
 }

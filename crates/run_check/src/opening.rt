@@ -6,9 +6,9 @@ ghost use Rattle.array_journal.specs.Run.{IsSetting};
 ghost use Rattle.run_check.specs.OpenTest.{is_unit, is_task_of_kind, is_task, is_decided, may_open};
 
 use crate::context::Context;
-use crate::decision::decide;
 use crate::plain::is_same_kind;
-use array_journal::{Decision, Kind, Setting, Task, task_bytes};
+use array_book::decide;
+use array_journal::{Decision, Kind, Setting, Task, Want, task_bytes};
 use stripe_layout::Geometry;
 
 /// Whether a task's rows are all those of its stripe.
@@ -67,13 +67,8 @@ fn is_decided(context: &Context, task: &Task) -> bool
     ensures { result ≡ is_decided context.now.setting.now context.now.past.now task.now }
 {
     let target = usize::from(task.target);
-    match decide(
-        context.setting,
-        context.past,
-        task.kind,
-        task.stripe,
-        target,
-    ) {
+    let facts = context.past.facts(context.setting, task.stripe, target);
+    match decide(Want::of(task.kind), &facts) {
         Decision::Opens(kind) => is_same_kind(kind, task.kind),
         Decision::Refuses(_) => false,
     }
