@@ -1,4 +1,5 @@
 pub mod StepsRead
+pub mod ScanSteps
 pub mod GivenUpPieces
 pub mod LossesNoted
 pub mod AskedWhole
@@ -11,4 +12,4 @@ pub mod Asks
 pub mod Inputs
 pub mod Accepted
 pub mod Completeness
-pub mod Parting
+pub mod parting

@@ -13,13 +13,12 @@ pub read_step : (xs : List EntryStep) (k : ℕ) (e : EntryStep) → k < length x
 read_step xs k e lt h =
     ap reverse (take_more xs k e lt) ∙ reverse-append (take k xs) (get_or xs k e ∷ []) ∙ ap (λ x. x ∷ reverse (take k xs)) h
 
-pub entry_steps-more : (ms grown : List EntryStep) (m : EntryStep) (es : List Entry) (k : ℕ) (e : Entry) → k < length es → get_or es k e ≡ e
-    → grown ≡ ms ++ m ∷ [] → IsStepOf m e (reverse (take k es)) → AreStepsOf (reverse ms) (reverse (take k es))
-    → AreStepsOf (reverse grown) (reverse (take (k + 1) es))
-entry_steps-more ms grown m es k e lt is more entry_step before =
-    subst (λ (l : List EntryStep). AreStepsOf (reverse l) (reverse (take (k + 1) es))) (sym more)
-    (subst (λ (l : List EntryStep). AreStepsOf l (reverse (take (k + 1) es))) (sym (reverse-append ms (m ∷ [])))
-    (subst (λ (l : List Entry). AreStepsOf (m ∷ reverse ms) l) (sym (read_more es k e lt is)) (entry_step, before)))
+-- one more step at the end is that of one more entry
+pub entry_steps-put : (ms grown : List EntryStep) (m : EntryStep) (past : List Entry) (e : Entry) → grown ≡ ms ++ m ∷ [] → IsStepOf m e past
+    → AreStepsOf (reverse ms) past → AreStepsOf (reverse grown) (e ∷ past)
+entry_steps-put ms grown m past e more entry_step before =
+    subst (λ (l : List EntryStep). AreStepsOf (reverse l) (e ∷ past)) (sym more)
+    (subst (λ (l : List EntryStep). AreStepsOf l (e ∷ past)) (sym (reverse-append ms (m ∷ []))) (entry_step, before))
 
 -- the calls of a journal's steps are its calls
 pub marked-calls : (entry_steps : List EntryStep) (past : List Entry) → AreStepsOf entry_steps past → calls_in entry_steps ≡ calls_seen past

@@ -28,7 +28,8 @@ use Rattle.host_scripts.specs.declared.script.Call.{Call}
 use Rattle.host_scripts.specs.declared.script.Script.{Script}
 use Rattle.stripe_check.specs.Asked.{IsDecided, AreDecided}
 use Rattle.host_requests.specs.Begins.{Aim, Begin, Opening, Refusal, Swapping, aim_of, begin_decided, begin_aim, begin_request, begin_call, begin_of}
-use Rattle.host_requests.specs.Requests.{Request, Fails, Moves, Loses, Wipes, Replaces, Rebuilds, Resyncs, Transfer, illegal, first_offending, field_fault, cdb_fault, bytes_due, transfer_fault, unless, moved, reading, writing, raw_transfer, request_of, call_at}
+use Rattle.sbc_cdbs.specs.Faults.{first_offending}
+use Rattle.host_requests.specs.Requests.{Request, Fails, Moves, Loses, Wipes, Replaces, Rebuilds, Resyncs, Transfer, illegal, field_fault, cdb_fault, bytes_due, transfer_fault, unless, moved, reading, writing, raw_transfer, request_of, call_at}
 use Rattle.host_requests.specs.Settings.{setting_of}
 use Rattle.journal_text.specs.Journals.{goes_on}
 use Rattle.trace_check.specs.Laws.{ToldJournalsLaw}

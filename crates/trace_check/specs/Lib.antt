@@ -6,6 +6,8 @@ pub mod CauseNumbers
 pub mod PieceOrder
 pub mod Inputs
 pub mod Findings
+pub mod Scans
+pub mod Verdicts
 pub mod Notes
 pub mod Endings
 pub mod Laws

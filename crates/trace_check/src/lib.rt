@@ -4,6 +4,7 @@
 
 mod asking;
 mod checking;
+mod judging;
 mod laws;
 
 pub use asking::asked;

@@ -46,7 +46,7 @@ fn call_of_command(past: &Past, command: u32) -> Option<u32>
 }
 
 /// The call that an event belongs to, over the entries before it.
-pub fn call_of(past: &Past, event: &Event) -> Option<u32>
+fn call_of(past: &Past, event: &Event) -> Option<u32>
     ensures { result ≡ call_of event.now past.now }
 {
     match event {

@@ -54,7 +54,7 @@ impl program_status::Finding for CheckFinding {
             }
             CheckFinding::Over { limit } => Bytes::from_slice(
                 alloc,
-                excess_line(Excess::Script(limit)),
+                excess_line(Excess::Counted(limit)),
             ),
             CheckFinding::TextLine { line } => numbered_line(alloc, b"rejected text line", line),
             CheckFinding::RunEntry { entry } => {

@@ -6,6 +6,16 @@ ghost use Rattle.trace_check.specs.Inputs.{starts_line, place_from, trace_place,
 
 use text_fields::strip;
 
+/// The parts of an input.
+#[derive(Clone, Copy, Debug)]
+pub(crate) struct InputParts<'a> {
+    pub script: &'a [u8],
+    /// What the run of the script reported.
+    pub report: &'a [u8],
+    /// The entries that the run made.
+    pub trace: &'a [u8],
+}
+
 /// What a line that parts an input begins with.
 #[derive(Clone, Copy, Debug, PartialEq, Eq)]
 pub(crate) enum LineStart {
@@ -67,14 +77,18 @@ fn trace_place(output: &[u8]) -> usize
     }
 }
 
-/// The script, the report and the trace.
+/// The script, the report and the trace, if a line parts the script from the others.
 #[tactic(auto, unfolding(crate::specs::Inputs::parts_of))]
-pub(crate) fn parts(input: &[u8]) -> Option<(&[u8], &[u8], &[u8])>
-    ensures { Reads (λ x. record { script = x.0.now; report = x.1.now; trace = x.2.now }) result (parts_of input.now) }
+pub(crate) fn parts(input: &[u8]) -> Option<InputParts<'_>>
+    ensures { Reads (λ x. record { script = x.script.now; report = x.report.now; trace = x.trace.now }) result (parts_of input.now) }
 {
     let place = place_from(input, LineStart::Output, 0, true)?;
     let (script, rest) = input.split_at(place);
     let output = strip(rest, b"output\n")?;
     let (report, trace) = output.split_at(trace_place(output));
-    Some((script, report, trace))
+    Some(InputParts {
+        script,
+        report,
+        trace,
+    })
 }

@@ -17,18 +17,16 @@ ghost use Rattle.program_status.specs.Endings.{AfterReading, IsInputTaken};
 ghost use Rattle.trace_check.specs.Endings.{AsksCheck, IsTold, IsRunOf, StopsBy, StopsCheck, StopsFor};
 ghost use Rattle.trace_check.specs.Notes.{accepted_line};
 
-use crate::asking::asked;
 use crate::checking::findings::{CheckFinding, accepted_line};
 use crate::checking::lines::{differing_line, line_ends};
 use crate::checking::parting::parts;
+use crate::judging::{RunVerdict, judge_journal};
 use array_journal::Journal;
 use blocks_core::Bytes;
-use host_requests::setting_of;
 use host_scripts::{Cause, Script, ScriptFault, over, parse};
 use journal_text::{TraceFault, read_trace};
 use outer_io::{READ_LIMIT, Source, read_input};
 use program_status::{ProgramStop, found, single_word};
-use run_check::run_fault;
 use std::alloc::Global;
 use stripe_check::report;
 
@@ -94,7 +92,7 @@ fn entries_in(alloc: Global, input: &[u8]) -> Result<u64, ProgramStop<CheckFindi
 {
     let cause = Cause::Form;
     match parts(input) {
-        Some((script, report, trace)) => entries_of(alloc, script, report, trace),
+        Some(parts) => entries_of(alloc, parts.script, parts.report, parts.trace),
         None => Err(found(alloc, CheckFinding::Refused { line: 0, cause })),
     }
 }
@@ -177,30 +175,10 @@ fn judge_run(
     ensures told { IfOk result (λ entries. Run (setting_of script.now) journal.now × IsAsked script.now journal.now × (told.now ≡ report_of script.now journal.now) × (entries ≡ length journal.now)) }
     ensures stop { IfErr result (λ stop. StopsBy (IsFoundOf script.now journal.now told.now) stop) }
 {
-    match run_fault(alloc, &setting_of(script), journal)? {
-        None => judge_asked(alloc, script, journal, told),
-        Some(entry) => Err(found(alloc, CheckFinding::RunEntry { entry })),
-    }
-}
-
-/// The same of a run.
-fn judge_asked(
-    alloc: Global,
-    script: &Script,
-    journal: &Journal,
-    told: &[u8],
-) -> Result<u64, ProgramStop<CheckFinding>>
-    requires script { IsScript script.now }
-    requires calls { length script.now.calls < 2 ^ 32 }
-    requires few { length journal.now < 2 ^ 32 }
-    requires run { Run (setting_of script.now) journal.now }
-    ensures told { IfOk result (λ entries. Run (setting_of script.now) journal.now × IsAsked script.now journal.now × (told.now ≡ report_of script.now journal.now) × (entries ≡ length journal.now)) }
-    ensures stop { IfErr result (λ stop. StopsBy (IsFoundOf script.now journal.now told.now) stop) }
-{
-    if asked(alloc, script, journal)? {
-        judge_report(alloc, script, journal, told)
-    } else {
-        Err(found(alloc, CheckFinding::Unasked))
+    match judge_journal(alloc, script, journal)? {
+        RunVerdict::Asked => judge_report(alloc, script, journal, told),
+        RunVerdict::Unasked => Err(found(alloc, CheckFinding::Unasked)),
+        RunVerdict::Faulty { entry } => Err(found(alloc, CheckFinding::RunEntry { entry })),
     }
 }
 

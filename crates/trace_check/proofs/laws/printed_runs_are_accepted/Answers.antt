@@ -1,5 +1,5 @@
 use Rattle.host_requests.specs.Settings.{setting_of}
-use Rattle.trace_check.proofs.Parting.{printed-parted}
+use Rattle.trace_check.proofs.parting.PrintedParted.{printed-parted}
 use Rattle.trace_check.proofs.ToldJournals.{told-journal, run-rises}
 use Rattle.trace_check.proofs.laws.printed_runs_are_accepted.Goals as goal
 

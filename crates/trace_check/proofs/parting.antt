@@ -1,0 +1,4 @@
+pub mod PassedLines
+pub mod ScriptFound
+pub mod ReportParted
+pub mod PrintedParted
