@@ -8,9 +8,9 @@ use Rattle.array_journal.specs.declared.entry.Entry.{Entry}
 use Rattle.array_journal.specs.declared.event.Event.{Event}
 use Rattle.xor_cli.specs.Disks.{Disk, Lane, disk_of}
 use Rattle.xor_cli.specs.Arrays.{Array}
-use Rattle.xor_cli.specs.OneJournal.{journal_of, AreKept}
+use Rattle.array_journal.specs.OneJournal.{journal_of, AreKept}
 use Rattle.xor_cli.specs.Serving.{next_at, with_next}
-use Rattle.xor_cli.proofs.OneJournal.{with_entry, kept-more, journal-more, length-journal}
+use Rattle.array_journal.proofs.runs.OneJournal.{with_entry, kept-more, journal-more, length-journal}
 
 abbrev pub disk_in : Lane → Disk
 disk_in t = t.disk

@@ -263,7 +263,7 @@ stop-whole words input rest before after status Usage old new nb na w s left (in
 stop-whole words input rest before after status ReadFault old new nb na w s left (inl e) one short = absurd (not-read status 3 e.0 (λ a. cc a) (λ a. cc a) (λ a. cc a) one)
 stop-whole words input rest before after status (Found (Refused refusal) note) old new nb na w s left (inl e) one short = left
 stop-whole words input rest before after status (Found (Exceeded excesses.Input) note) old new nb na w s left (inl e) one short = absurd (omega (arith, s.0.1, short))
-stop-whole words input rest before after status (Found (Exceeded (excesses.Script limit)) note) old new nb na w s left (inl e) one short = left
+stop-whole words input rest before after status (Found (Exceeded (excesses.Counted limit)) note) old new nb na w s left (inl e) one short = left
 stop-whole words input rest before after status (Found (Undecodable fault) note) old new nb na w s left (inl e) one short = absurd (step-undecodable words (Some input) fault w s.0)
 stop-whole words input rest before after status Memory old new nb na w s left (inl e) one short = absurd (not-read status 5 e.0 (λ a. cc a) (λ a. cc a) (λ a. cc a) one)
 stop-whole words input rest before after status stop old new nb na w s left (inr e) one short = absurd (not-read status 4 e.0 (λ a. cc a) (λ a. cc a) (λ a. cc a) one)

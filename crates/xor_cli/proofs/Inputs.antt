@@ -54,14 +54,14 @@ accepted-refused input script refusal a h = accepted-refused_for input script re
 
 pub accepted-excess : (input : List ℕ) (script : Script) (excess : Excess) → IsAccepted input script → IsExcess input excess → ⊥
 accepted-excess input script excesses.Input a h = omega (arith, a.0.0, h)
-accepted-excess input script (excesses.Script limit) a h = limit-none input script h.0 limit a.0.1 h.1.0.1 a.1.1 h.1.1
+accepted-excess input script (excesses.Counted limit) a h = limit-none input script h.0 limit a.0.1 h.1.0.1 a.1.1 h.1.1
 
 refused_for-excess : (input : List ℕ) (number : ℕ) (reason : Reason) (excess : Excess) → IsRefusedFor input number reason → IsExcess input excess → ⊥
 refused_for-excess input number reason excesses.Input r h = omega (arith, refused-bound input number reason r, h)
-refused_for-excess input number reasons.Form (excesses.Script limit) r h = r.1.unspelt h.0 h.1.0.1
-refused_for-excess input number reasons.Range (excesses.Script limit) r h = r.1.unspelt h.0 h.1.0.1
-refused_for-excess input number reasons.Size (excesses.Script limit) r h = r.1.unspelt h.0 h.1.0.1
-refused_for-excess input number reasons.Later (excesses.Script limit) r h = limit-none input r.0 h.0 limit r.1.0.1 h.1.0.1 r.1.1 h.1.1
+refused_for-excess input number reasons.Form (excesses.Counted limit) r h = r.1.unspelt h.0 h.1.0.1
+refused_for-excess input number reasons.Range (excesses.Counted limit) r h = r.1.unspelt h.0 h.1.0.1
+refused_for-excess input number reasons.Size (excesses.Counted limit) r h = r.1.unspelt h.0 h.1.0.1
+refused_for-excess input number reasons.Later (excesses.Counted limit) r h = limit-none input r.0 h.0 limit r.1.0.1 h.1.0.1 r.1.1 h.1.1
 
 pub refused-excess : (input : List ℕ) (refusal : Refusal) (excess : Excess) → IsRefused input refusal → IsExcess input excess → ⊥
 refused-excess input refusal excess r h = refused_for-excess input refusal.line refusal.reason excess r h
@@ -111,10 +111,10 @@ refused-one input a b f g = refused_for-one input a.line b.line a.reason b.reaso
 -- there is too much of one thing
 pub excess-one : (input : List ℕ) (a b : Excess) → IsExcess input a → IsExcess input b → a ≡ b
 excess-one input excesses.Input excesses.Input f g = refl
-excess-one input excesses.Input (excesses.Script limit) f g = absurd (omega (arith, f, g.1.0.0))
-excess-one input (excesses.Script limit) excesses.Input f g = absurd (omega (arith, g, f.1.0.0))
-excess-one input (excesses.Script limit) (excesses.Script other) f g =
+excess-one input excesses.Input (excesses.Counted limit) f g = absurd (omega (arith, f, g.1.0.0))
+excess-one input (excesses.Counted limit) excesses.Input f g = absurd (omega (arith, g, f.1.0.0))
+excess-one input (excesses.Counted limit) (excesses.Counted other) f g =
     let same : f.0 ≡ g.0 = same-script input f.0 g.0 f.1.0.1 g.1.0.1 in
     let limits : Some limit ≡ Some other = sym f.1.1 ∙ ap limit_of same ∙ g.1.1 in
     let one : limit ≡ other = cc limits in
-    ap excesses.Script one
+    ap excesses.Counted one

@@ -7,7 +7,6 @@ pub mod Today
 pub mod Laters
 pub mod Work
 pub mod Ends
-pub mod OneJournal
 pub mod Appends
 pub mod Starts
 pub mod Journals

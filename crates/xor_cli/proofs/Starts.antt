@@ -5,7 +5,7 @@ use Rattle.std.specs.List.{AllByRecursion}
 use Rattle.array_journal.specs.declared.entry.Entry.{Entry}
 use Rattle.array_journal.specs.Merge.{joined, Rises, AreOfLocks}
 use Rattle.xor_cli.specs.Disks.{Lane}
-use Rattle.xor_cli.specs.OneJournal.{by_name, journal_of, AreKept}
+use Rattle.array_journal.specs.OneJournal.{by_name, journal_of, AreKept}
 use Rattle.xor_cli.proofs.Appends.{disk_in, entries_in}
 
 map-replicate : {A B : Type 0} (f : A → B) (n : ℕ) (x : A) → map f (replicate n x) ≡ replicate n (f x)

@@ -49,7 +49,7 @@ refused-left left bytes refusal e refused =
 excess-left : (left : Option (List ℕ)) (bytes : List ℕ) (excess : Excess) → IfSome left (λ all. bytes ≡ take (input_limit + 1) all) → IsExcess bytes excess → IfSome left (λ all. IsExcess all excess)
 excess-left None bytes excess e is = tt
 excess-left (Some all) bytes excesses.Input e is = let n : length bytes ≡ length (take (input_limit + 1) all) = ap length e in omega (arith, length-take (input_limit + 1) all, n, is)
-excess-left (Some all) bytes (excesses.Script limit) e is = left-whole (Some all) bytes (λ b. IsExcess b (excesses.Script limit)) is.1.0.0 e is
+excess-left (Some all) bytes (excesses.Counted limit) e is = left-whole (Some all) bytes (λ b. IsExcess b (excesses.Counted limit)) is.1.0.0 e is
 
 -- what is found of the bytes that were read is found of all that the source had
 found-left : (left : Option (List ℕ)) (bytes : List ℕ) (finding : ToolFinding) → IfSome left (λ all. bytes ≡ take (input_limit + 1) all) → IsFoundIn bytes finding → IsFoundAhead left finding
@@ -70,7 +70,7 @@ stops-left left bytes Usage end s = tt
 stops-left left bytes ReadFault end s = tt
 stops-left left bytes (Found (Refused refusal) note) end s = end (refused-bound bytes refusal.line refusal.reason s.0)
 stops-left left bytes (Found (Exceeded excesses.Input) note) end s = tt
-stops-left left bytes (Found (Exceeded (excesses.Script limit)) note) end s = end s.0.1.0.0
+stops-left left bytes (Found (Exceeded (excesses.Counted limit)) note) end s = end s.0.1.0.0
 stops-left left bytes (Found (Undecodable fault) note) end s = tt
 stops-left left bytes Memory end s = tt
 

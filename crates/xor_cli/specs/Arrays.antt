@@ -3,7 +3,7 @@ use Rattle.std.specs.Prelude.{ℕ, List, ◌∷◌, map}
 use Rattle.array_journal.specs.declared.entry.Entry.{Entry}
 use Rattle.array_journal.specs.declared.setting.Setting.{Setting}
 use Rattle.xor_cli.specs.Disks.{Disk, Lane}
-use Rattle.xor_cli.specs.OneJournal.{journal_of, AreKept}
+use Rattle.array_journal.specs.OneJournal.{journal_of, AreKept}
 use Rattle.xor_cli.specs.declared.array.controller.Controller.{Controller}
 
 pub record Array : Type 0 where

@@ -30,7 +30,7 @@ IsAccepted input script = IsSpelt input script × IsRunnable script
 -- there is too much of this: the input is longer than it may be, or its script is past this limit
 abbrev pub IsExcess : List ℕ → Excess → Type 0
 IsExcess input excesses.Input = input_limit < length input
-IsExcess input (excesses.Script limit) = (script : Script) × (IsSpelt input script × (limit_of script ≡ Some limit))
+IsExcess input (excesses.Counted limit) = (script : Script) × (IsSpelt input script × (limit_of script ≡ Some limit))
 
 -- the input spells no script, and this is the first line that is refused, with its first cause
 abbrev pub IsUnspelt : List ℕ → ℕ → Cause → Type 0

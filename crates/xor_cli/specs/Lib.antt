@@ -9,7 +9,6 @@ pub mod Inputs
 pub mod Endings
 pub mod Statuses
 pub mod Disks
-pub mod OneJournal
 pub mod Arrays
 pub mod Serving
 pub mod Tasks

@@ -68,7 +68,7 @@ IsFoundAhead input (Undecodable fault) = ⊥
 abbrev pub IsFoundOf : Script → ToolFinding → Type 0
 IsFoundOf script (Refused refusal) =
     (number : ℕ) × ((limit_of script ≡ None) × (first_later script ≡ Some number) × (refusal ≡ later_refusal number))
-IsFoundOf script (Exceeded excess) = (limit : Limit) × ((limit_of script ≡ Some limit) × (excess ≡ excesses.Script limit))
+IsFoundOf script (Exceeded excess) = (limit : Limit) × ((limit_of script ≡ Some limit) × (excess ≡ excesses.Counted limit))
 IsFoundOf script (Undecodable fault) = ⊥
 
 -- of bytes to decode
@@ -109,7 +109,7 @@ StopsFor words input before after stop = StopsProgram (SpellsNoToolCommand words
 abbrev pub IsLeftAt : ToolFinding → Option (List ℕ) → Type 0
 IsLeftAt (Refused refusal) left = IsAtEnd left
 IsLeftAt (Exceeded excesses.Input) left = Unit {0}
-IsLeftAt (Exceeded (excesses.Script limit)) left = IsAtEnd left
+IsLeftAt (Exceeded (excesses.Counted limit)) left = IsAtEnd left
 IsLeftAt (Undecodable fault) left = Unit {0}
 
 -- what is left of it where the run is stopped so; where a read failed or memory ran out, that may be anything

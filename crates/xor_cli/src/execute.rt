@@ -139,7 +139,7 @@ fn check_script(alloc: Global, script: &Script) -> Result<(), ProgramStop<ToolFi
     ensures stop { IfErr result (λ stop. StopsScript script.now stop) }
 {
     if let Some(limit) = over(script) {
-        return Err(found(alloc, ToolFinding::Exceeded(Excess::Script(limit))));
+        return Err(found(alloc, ToolFinding::Exceeded(Excess::Counted(limit))));
     }
     match first_later(script) {
         Some(line) => Err(refused(alloc, line, Reason::Later)),

@@ -1,13 +1,13 @@
 ghost use Rattle.std.specs.Prelude.{◌≡◌, []};
 
-use array_journal::Entries;
+use array_journal::Journal;
 use std::alloc::Global;
 
 /// The book: how many commands were opened, and the entries of its lock.
 #[derive(Debug, Drop)]
 pub struct Book {
     pub commands: u32,
-    pub entries: Entries,
+    pub entries: Journal,
 }
 
 impl Book {
@@ -17,7 +17,7 @@ impl Book {
     {
         Book {
             commands: 0,
-            entries: Entries::new(alloc),
+            entries: Journal::new(alloc),
         }
     }
 }

@@ -1,5 +1,6 @@
 ghost use Rattle.std.specs.Prelude.{◌≡◌, ◌*◌, ◌<◌, ◌^◌, [], length, replicate, IfOk, OnOk};
 ghost use Rattle.blocks_core.specs.Xor.{zeros};
+ghost use Rattle.array_journal.specs.EntryLists.{lists_in};
 ghost use Rattle.stripe_layout.specs.Layout.{IsArray, capacity_of, rows_of};
 ghost use Rattle.xor_cli.specs.Inputs.{IsRunnable};
 ghost use Rattle.xor_cli.specs.Headline.{IsJournalOf};
@@ -73,7 +74,7 @@ impl Controller {
 
     /// The lists of entries in the order of their locks: the book's, and each target's.
     fn into_lists(self, alloc: Global) -> Result<Vec<Entries>, Memory>
-        ensures { IfOk result (λ lists. lists.items ≡ lists_of self) }
+        ensures { IfOk result (λ lists. lists_in lists.items ≡ lists_of self) }
     {
         let Controller {
             setting: _,
@@ -86,7 +87,7 @@ impl Controller {
             entries,
         } = book;
         let mut lists = Vec::new(alloc);
-        lists.push(entries)?;
+        lists.push(entries.into_entries())?;
         for target in targets {
             lists.push(target.into_entries())?;
         }

@@ -2,7 +2,7 @@ ghost use Rattle.std.specs.Prelude.{◌≡◌, ◌+◌, ◌≤◌, [], ◌∷◌
 ghost use Rattle.blocks_core.specs.Xor.{xor, zeros};
 ghost use Rattle.blocks_core.specs.Lists.{slice, put};
 
-use array_journal::{Entries, Entry};
+use array_journal::{Entries, Entry, Journal};
 use blocks_core::{Bytes, Memory, xor_into};
 use std::alloc::Global;
 use std::marker::Model;
@@ -14,7 +14,7 @@ use std::mem;
 pub struct Target {
     medium: Vec<u8>,
     held: Bytes,
-    entries: Entries,
+    entries: Journal,
 }
 
 impl Model for Target {
@@ -33,7 +33,7 @@ impl Target {
         Ok(Target {
             medium: vec![in alloc; 0; size]?,
             held: Bytes::new(alloc),
-            entries: Entries::new(alloc),
+            entries: Journal::new(alloc),
         })
     }
 
@@ -96,13 +96,13 @@ impl Target {
 
     /// The entries of its lock.
     pub fn into_entries(self) -> Entries
-        ensures { result ≡ self.entries }
+        ensures { result.list ≡ self.entries }
     {
         let Target {
             medium: _,
             held: _,
             entries,
         } = self;
-        entries
+        entries.into_entries()
     }
 }

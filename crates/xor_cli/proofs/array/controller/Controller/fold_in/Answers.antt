@@ -5,7 +5,7 @@ use Rattle.array_journal.specs.declared.entry.Entry.{Entry}
 use Rattle.blocks_core.specs.Lists.{slice, put}
 use Rattle.xor_cli.specs.Arrays.{array_of}
 use Rattle.xor_cli.specs.Disks.{Disk, with_fold}
-use Rattle.xor_cli.specs.OneJournal.{journal_of, AreKept}
+use Rattle.array_journal.specs.OneJournal.{journal_of, AreKept}
 use Rattle.xor_cli.proofs.Appends.{entries_in, disk_in, lists-same, disk-done, same-array}
 use Rattle.xor_cli.proofs.array.controller.Controller.fold_in.Goals as goal
 

@@ -1,14 +1,11 @@
-use Rattle.std.proofs.Common.{List, sym, subst}
-use Rattle.std.specs.List.Sorted.{IsPermutation}
+use Rattle.std.proofs.Common.{List, sym, subst, ◌≡◌}
+use Rattle.std.proofs.lemmas.Result.{IfOk-weaker}
 use Rattle.array_journal.specs.declared.entry.Entry.{Entry}
-use Rattle.array_journal.specs.Merge.{joined, AreOfLocks}
-use Rattle.xor_cli.specs.Arrays.{lists_of}
-use Rattle.xor_cli.proofs.OneJournal.{merged-journal}
+use Rattle.array_journal.specs.OneJournal.{journal_of, AreKept}
 use Rattle.xor_cli.proofs.array.controller.Controller.into_journal.Goals as goal
 
 pub returns : goal.returns
 returns c =
-    let Permutes : List (List Entry) → Type 0 = λ lists. IsPermutation (joined lists) c.in_ok-journal.journal in
-    merged-journal c.args.self.stamp (lists_of c.args.self) c.in_ok-journal.journal c.requires.kept
-    (subst Permutes c.in_ok-lists.ensures c.in_ok-journal.ensures.same)
-    (c.in_ok-journal.ensures.of_locks (subst (AreOfLocks 0) (sym c.in_ok-lists.ensures) c.requires.kept.of_locks))
+    let Journal : List (List Entry) → Type 0 = λ lists. c.in_ok-journal.journal ≡ journal_of lists in
+    subst Journal c.in_ok-lists.ensures
+    (c.in_ok-journal.ensures.one c.args.self.stamp (subst (AreKept c.args.self.stamp) (sym c.in_ok-lists.ensures) c.requires.kept))

@@ -3,7 +3,7 @@ use Rattle.blocks_core.specs.Xor.{zeros}
 use Rattle.stripe_layout.specs.Layout.{rows_of}
 use Rattle.xor_cli.specs.declared.array.book.Book.{Book}
 use Rattle.xor_cli.specs.Disks.{Lane}
-use Rattle.xor_cli.specs.OneJournal.{journal_of, AreKept}
+use Rattle.array_journal.specs.OneJournal.{journal_of, AreKept}
 use Rattle.xor_cli.specs.Rest.{IsRest}
 use Rattle.xor_cli.proofs.Appends.{disk_in, entries_in}
 use Rattle.xor_cli.proofs.FirstCalls.{start-rest}
