@@ -11,7 +11,9 @@ use crate::pages::push_pages;
 use crate::requests::push_requests;
 use crate::scripts::push_scripts;
 use crate::state::push_state;
+use crate::streams::push_streams;
 use crate::tables::push_tables;
+use crate::targets::push_targets;
 use array_journal::Journal;
 use blocks_core::{Bytes, Memory};
 use host_scripts::{Script, parse};
@@ -63,9 +65,11 @@ fn called(alloc: Global, script: &Script, journal: &Journal) -> Result<Answer, M
     push_outer_io(alloc, &mut text)?;
     push_state(alloc, &mut text)?;
     push_buffers(alloc, &mut text)?;
+    push_targets(alloc, &mut text)?;
     push_requests(alloc, &mut text)?;
     push_scripts(alloc, &mut text)?;
     push_tables(alloc, &mut text)?;
     push_pages(&mut text)?;
+    push_streams(alloc, &mut text)?;
     Ok(Answer::Text(text))
 }

@@ -13,7 +13,9 @@ mod pages;
 mod requests;
 mod scripts;
 mod state;
+mod streams;
 mod tables;
+mod targets;
 
 use calls::{Answer, answer_to};
 use program_status::{Status, Verdict};
