@@ -35,14 +35,15 @@ def closure(starts):
 def by_crate(paths):
     table = {}
     for path in sorted(paths):
-        table.setdefault(path.parts[len(TOP.parts) + 1], []).append(path.stem)
+        below = path.relative_to(TOP / "crates").with_suffix("")
+        table.setdefault(below.parts[0], []).append("/".join(below.parts[2:]))
     return table
 
 
 def listed(document):
     """the rows `| crate | File, File |` of a document"""
-    rows = re.findall(r"^\| `(\w+)` \| ((?:`\w+`(?:, )?)+) \|$", document.read_text(), re.M)
-    return {crate: re.findall(r"`(\w+)`", files) for crate, files in rows}
+    rows = re.findall(r"^\| `(\w+)` \| ((?:`[\w/]+`(?:, )?)+) \|$", document.read_text(), re.M)
+    return {crate: re.findall(r"`([\w/]+)`", files) for crate, files in rows}
 
 
 def main():
