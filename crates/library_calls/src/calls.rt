@@ -13,7 +13,6 @@ use crate::scripts::push_scripts;
 use crate::state::push_state;
 use crate::streams::push_streams;
 use crate::tables::push_tables;
-use crate::targets::push_targets;
 use array_journal::Journal;
 use blocks_core::{Bytes, Memory};
 use host_scripts::{Script, parse};
@@ -65,7 +64,6 @@ fn called(alloc: Global, script: &Script, journal: &Journal) -> Result<Answer, M
     push_outer_io(alloc, &mut text)?;
     push_state(alloc, &mut text)?;
     push_buffers(alloc, &mut text)?;
-    push_targets(alloc, &mut text)?;
     push_requests(alloc, &mut text)?;
     push_scripts(alloc, &mut text)?;
     push_tables(alloc, &mut text)?;

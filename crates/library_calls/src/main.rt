@@ -15,7 +15,6 @@ mod scripts;
 mod state;
 mod streams;
 mod tables;
-mod targets;
 
 use calls::{Answer, answer_to};
 use program_status::{Status, Verdict};
