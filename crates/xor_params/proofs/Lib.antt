@@ -1,3 +1,4 @@
 pub mod TableLemmas
 pub mod Readings
 pub mod Refusals
+pub mod ListFaults

@@ -1,16 +1,17 @@
 -- What is read is spelled so, and bytes spell one list at most.
-use Rattle.std.proofs.Common.{◌≡◌, ℕ, zero, suc, ◌+◌, ◌-◌, ◌*◌, ◌/◌, ◌%◌, ◌<◌, ◌≤◌, ◌^◌, Bool, List, [], ◌∷◌, ◌++◌, length, get_or, take, drop, refl, sym, ap, ◌∙◌, append_assoc, arith, inl, inr}
+use Rattle.std.proofs.Common.{◌≡◌, ℕ, zero, suc, ◌+◌, ◌-◌, ◌*◌, ◌/◌, ◌%◌, ◌<◌, ◌≤◌, ◌^◌, Bool, List, [], ◌∷◌, ◌++◌, length, map, get_or, take, drop, refl, sym, ap, ◌∙◌, append_assoc, arith, inl, inr}
 use Rattle.std.specs.Prelude.{bit_and}
 use Rattle.std.specs.List.{flat_map, All}
-use Rattle.std.proofs.lemmas.List.{take_at, drop_at, get_or-take, get_or-drop, length-take, length-drop, drop-drop, take-append-drop, get_or_past}
+use Rattle.std.specs.Simd.{first_chunks}
+use Rattle.std.proofs.lemmas.List.{take_at, drop_at, get_or-take, get_or-drop, length-take, length-drop, drop-drop, take-append-drop, get_or_past, length-map}
 use Rattle.std.proofs.lemmas.Bool.{cases_lt}
 use Rattle.std.proofs.Math.Seq.{take-add}
 use Rattle.std.proofs.lemmas.List.Elements.{All-nil, All-cons, All-head, All-tail}
 use Rattle.xor_params.specs.declared.sources.Descriptor.{Descriptor}
 use Rattle.xor_params.specs.declared.lists.Params.{Params}
 use Rattle.xor_params.specs.ParameterLists.{descriptor, room, spelling, data_due, SpellsParams, announced_sources, announced_room, due, HasHead, reserved_bits, wrong_bits, place}
-use Rattle.cdb_fields.specs.Fields.{number_at}
-use Rattle.xor_params.proofs.TableLemmas.{source_spells}
+use Rattle.xor_params.specs.Contents.{descriptors_in, source_in, params_in}
+use Rattle.xor_params.proofs.TableLemmas.{source_spells, length-chunks}
 
 -- three parts of a list, one behind the other
 three_parts : (a b : ℕ) (xs : List ℕ) → xs ≡ (take a xs ++ take b (drop a xs)) ++ drop (a + b) xs
@@ -21,7 +22,7 @@ three_parts a b xs =
     ∙ sym (append_assoc (take a xs) (take b (drop a xs)) (drop (a + b) xs))
 
 -- the parts that the head of the bytes tells apart are a list that the bytes spell
-pub parts_spell : (bytes : List ℕ) (intdata : Bool) (wanted : ℕ) (p : Params) → ((i : ℕ) → get_or bytes i 0 < 256) → HasHead bytes → length bytes ≡ due bytes intdata wanted
+parts_spell : (bytes : List ℕ) (intdata : Bool) (wanted : ℕ) (p : Params) → ((i : ℕ) → get_or bytes i 0 < 256) → HasHead bytes → length bytes ≡ due bytes intdata wanted
     → length p.sources ≡ announced_sources bytes → All (λ d. d.lba < 2 ^ 32) p.sources
     → flat_map descriptor p.sources ≡ take (16 * announced_sources bytes) (drop 4 bytes)
     → p.pad ≡ take (announced_room bytes - 16 * announced_sources bytes) (drop (4 + 16 * announced_sources bytes) bytes)
@@ -66,30 +67,31 @@ take_fits n xs fits i = elim (cases_lt i n) [
   | inr le ↦ rw (get_or_past (take n xs) i 0 (omega (arith, length-take n xs))) (omega arith)
 ]
 
--- bytes without a wrong bit spell sources
-pub sources_exist : (n : ℕ) (xs : List ℕ) → 16 * n ≤ length xs → ((i : ℕ) → get_or xs i 0 < 256)
+-- bytes without a wrong bit spell the sources that are read of them
+sources_spell : (n : ℕ) (xs : List ℕ) → 16 * n ≤ length xs → ((i : ℕ) → get_or xs i 0 < 256)
     → ((k i : ℕ) → k < n → i < 16 → bit_and (get_or reserved_bits i 0) (get_or xs (16 * k + i) 0) ≡ 0)
-    → (ds : List Descriptor) × (flat_map descriptor ds ≡ take (16 * n) xs) × (length ds ≡ n) × All (λ d. d.lba < 2 ^ 32) ds
-sources_exist zero xs h fits clean = ([], refl, refl, All-nil (λ d. d.lba < 2 ^ 32))
-sources_exist (suc n) xs h fits clean =
+    → (flat_map descriptor (map source_in (first_chunks 16 n xs)) ≡ take (16 * n) xs) × All (λ d. d.lba < 2 ^ 32) (map source_in (first_chunks 16 n xs))
+sources_spell zero xs h fits clean = (refl, All-nil (λ d. d.lba < 2 ^ 32))
+sources_spell (suc n) xs h fits clean =
     let first = take 16 xs in
     let first_fits = take_fits 16 xs fits in
-    let d : Descriptor = record { target = number_at 7 1 first; lba = number_at 12 4 first } in
+    let d : Descriptor = source_in first in
     let long : length first ≡ 16 = omega (arith, length-take 16 xs) in
     let zero_at : (i : ℕ) → 16 * 0 + i ≡ i = λ i. omega arith in
     let spelled : descriptor d ≡ first = source_spells first d.target d.lba long first_fits
     (λ i l. ap (λ b. bit_and (get_or reserved_bits i 0) b) (get_or-take 16 xs i 0 l ∙ ap (λ j. get_or xs j 0) (sym (zero_at i))) ∙ clean 0 i (omega arith) l) refl refl in
     let next_at : (k i : ℕ) → 16 + (16 * k + i) ≡ 16 * suc k + i = λ k i. omega arith in
-    let others = sources_exist n (drop 16 xs) (omega (arith, length-drop 16 xs)) (λ i. rw get_or-drop (fits (16 + i)))
+    let rest = map source_in (first_chunks 16 n (drop 16 xs)) in
+    let others = sources_spell n (drop 16 xs) (omega (arith, length-drop 16 xs)) (λ i. rw get_or-drop (fits (16 + i)))
     (λ k i h l. ap (λ b. bit_and (get_or reserved_bits i 0) b) (get_or-drop 16 xs (16 * k + i) 0 ∙ ap (λ j. get_or xs j 0) (next_at k i)) ∙ clean (suc k) i (omega arith) l) in
     let small : d.lba < 2 ^ 32 = omega (arith, get_or-drop 12 first 0 0, get_or-drop 12 first 1 0, get_or-drop 12 first 2 0, get_or-drop 12 first 3 0, first_fits 12, first_fits 13, first_fits 14, first_fits 15) in
     let sum : 16 + 16 * n ≡ 16 * suc n = omega arith in
-    let whole : flat_map descriptor (d ∷ others.0) ≡ take (16 * suc n) xs =
-    ap (λ (t : List ℕ). t ++ flat_map descriptor others.0) spelled
-    ∙ ap (λ (t : List ℕ). first ++ t) others.1
+    let whole : flat_map descriptor (d ∷ rest) ≡ take (16 * suc n) xs =
+    ap (λ (t : List ℕ). t ++ flat_map descriptor rest) spelled
+    ∙ ap (λ (t : List ℕ). first ++ t) others.0
     ∙ sym (take-add 16 (16 * n) xs)
     ∙ ap (λ m. take m xs) sum in
-    (d ∷ others.0, whole, ap suc others.2, All-cons (λ (x : Descriptor). x.lba < 2 ^ 32) d others.0 small others.3)
+    (whole, All-cons (λ (x : Descriptor). x.lba < 2 ^ 32) d rest small others.1)
 
 -- one source is read from its sixteen bytes, whatever follows
 same_source : (d e : Descriptor) (x y : List ℕ) → d.lba < 2 ^ 32 → e.lba < 2 ^ 32 → descriptor d ++ x ≡ descriptor e ++ y → (d ≡ e) × (x ≡ y)
@@ -129,16 +131,12 @@ one_list bytes intdata wanted p q s t =
     let second : p ≡ record { sources = q.sources; pad = q.pad; intermediate = p.intermediate } = first ∙ ap (λ (t : List ℕ). record { sources = q.sources; pad = t; intermediate = p.intermediate }) pad_is in
     second ∙ ap (λ (t : List ℕ). record { sources = q.sources; pad = q.pad; intermediate = t }) data_is
 
--- bytes without a fault spell a list
-pub list_exists : (bytes : List ℕ) (intdata : Bool) (wanted : ℕ) → ((i : ℕ) → get_or bytes i 0 < 256) → HasHead bytes → length bytes ≡ due bytes intdata wanted
-    → ((k i : ℕ) → k < announced_sources bytes → i < 16 → wrong_bits bytes k i ≡ 0) → (p : Params) × SpellsParams bytes intdata wanted p
-list_exists bytes intdata wanted fits head whole clean =
+-- bytes without a fault spell the list that is read of them
+pub contents_spell : (bytes : List ℕ) (intdata : Bool) (wanted : ℕ) → ((i : ℕ) → get_or bytes i 0 < 256) → HasHead bytes → length bytes ≡ due bytes intdata wanted
+    → ((k i : ℕ) → k < announced_sources bytes → i < 16 → wrong_bits bytes k i ≡ 0) → SpellsParams bytes intdata wanted (params_in bytes)
+contents_spell bytes intdata wanted fits head whole clean =
     let at : (k i : ℕ) → 4 + (16 * k + i) ≡ place k i = λ k i. omega arith in
-    let found = sources_exist (announced_sources bytes) (drop 4 bytes) (omega (arith, length-drop 4 bytes, head.roomy, whole)) (λ i. rw get_or-drop (fits (4 + i)))
+    let found = sources_spell (announced_sources bytes) (drop 4 bytes) (omega (arith, length-drop 4 bytes, head.roomy, whole)) (λ i. rw get_or-drop (fits (4 + i)))
     (λ k i h l. ap (λ b. bit_and (get_or reserved_bits i 0) b) (get_or-drop 4 bytes (16 * k + i) 0 ∙ ap (λ j. get_or bytes j 0) (at k i)) ∙ clean k i h l) in
-    let p : Params = record {
-      sources = found.0;
-      pad = take (announced_room bytes - 16 * announced_sources bytes) (drop (4 + 16 * announced_sources bytes) bytes);
-      intermediate = drop (4 + announced_room bytes) bytes;
-    } in
-    (p, parts_spell bytes intdata wanted p fits head whole found.2 found.3 found.1 refl refl)
+    parts_spell bytes intdata wanted (params_in bytes) fits head whole
+    (length-map (descriptors_in bytes) source_in ∙ length-chunks 16 (announced_sources bytes) (drop 4 bytes)) found.1 found.0 refl refl

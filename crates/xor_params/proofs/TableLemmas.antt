@@ -1,25 +1,30 @@
 -- Descriptors as sixteen bytes each, against the bytes that they were cut from.
-use Rattle.std.proofs.Common.{◌≡◌, ℕ, zero, suc, ◌+◌, ◌*◌, ◌<◌, Bool, List, [], ◌∷◌, ◌++◌, length, get_or, take, drop, refl, sym, ap, ◌∙◌, append_assoc, arith}
+use Rattle.std.proofs.Common.{◌≡◌, ℕ, zero, suc, ◌+◌, ◌*◌, ◌<◌, Bool, List, [], ◌∷◌, length, get_or, take, drop, refl, sym, ap, ◌∙◌, arith}
 use Rattle.std.specs.Prelude.{bit_and}
-use Rattle.std.specs.List.{flat_map}
 use Rattle.std.specs.Simd.{first_chunks}
 use Rattle.std.specs.Int.{w32, to_be_bytes}
-use Rattle.std.proofs.lemmas.List.{get_or-take, get_or-drop, length-drop, take-append-drop, at_drop_more}
-use Rattle.std.proofs.lemmas.List.Concat.{flat_map-append}
+use Rattle.std.proofs.lemmas.List.{get_or-take, get_or-drop, length-drop, take-take, drop-take}
 use Rattle.std.proofs.lemmas.Nat.{be_bytes_4}
 use Rattle.cdb_fields.specs.Fields.{number_at}
-use Rattle.xor_params.specs.declared.sources.Descriptor.{Descriptor}
 use Rattle.xor_params.specs.ParameterLists.{descriptor, reserved_bits, wrong_bits, announced_sources, HasHead, due, OffendsFirst}
 use Rattle.xor_params.specs.Tables.{HasPlaces, wrong_bits_at, IsClean, IsLowestOffence}
 use Rattle.cdb_fields.proofs.Cells.{cells, cells_from, whole}
 use Rattle.cdb_fields.proofs.Masks.{all_reserved}
 
--- pieces joined are what they were cut from
-pub joined_pieces : (k : ℕ) (xs : List ℕ) → 16 * k ≡ length xs → flat_map (λ d. d) (first_chunks 16 k xs) ≡ xs
-joined_pieces zero [] e = refl
-joined_pieces zero (x ∷ xs) e = absurd (omega arith)
-joined_pieces (suc k) xs e =
-    ap (λ (t : List ℕ). take 16 xs ++ t) (joined_pieces k (drop 16 xs) (omega (arith, length-drop 16 xs))) ∙ take-append-drop 16 xs
+-- so many pieces
+pub length-chunks : (n k : ℕ) (xs : List ℕ) → length (first_chunks n k xs) ≡ k
+length-chunks n zero xs = refl
+length-chunks n (suc k) xs = ap suc (length-chunks n k (drop n xs))
+
+-- what follows the pieces is nothing to them
+pub chunks-of-front : (k : ℕ) (xs : List ℕ) → first_chunks 16 k (take (16 * k) xs) ≡ first_chunks 16 k xs
+chunks-of-front zero xs = refl
+chunks-of-front (suc k) xs =
+    let sum : 16 + 16 * k ≡ 16 * suc k = omega arith in
+    let first : take 16 (take (16 * suc k) xs) ≡ take 16 xs = take-take 16 (16 * suc k) xs (omega arith) in
+    let others : drop 16 (take (16 * suc k) xs) ≡ take (16 * k) (drop 16 xs) = ap (λ m. drop 16 (take m xs)) (sym sum) ∙ drop-take 16 (16 * k) xs in
+    ap (λ (t : List ℕ). t ∷ first_chunks 16 k (drop 16 (take (16 * suc k) xs))) first
+    ∙ ap (λ (t : List (List ℕ)). take 16 xs ∷ t) (ap (λ (t : List ℕ). first_chunks 16 k t) others ∙ chunks-of-front k (drop 16 xs))
 
 -- a byte of a piece stands behind the pieces before it
 pub byte_of_piece : (n k i : ℕ) (xs : List ℕ) → k < n → i < 16 → get_or (get_or (first_chunks 16 n xs) k []) i 0 ≡ get_or xs (16 * k + i) 0
@@ -56,20 +61,6 @@ source_spells bytes target lba len fits clean t l =
     let all : bytes ≡ cells 0 16 bytes = whole 16 bytes len in
     cc
 
--- one more source, spelled by the next sixteen bytes
-pub one_more : (front : List Descriptor) (d : Descriptor) (table : List (List ℕ)) (i : ℕ) (total : List ℕ) → i < length table → descriptor d ≡ get_or table i []
-    → flat_map descriptor front ++ flat_map (λ t. t) (drop i table) ≡ total
-    → flat_map descriptor (front ++ d ∷ []) ++ flat_map (λ t. t) (drop (i + 1) table) ≡ total
-one_more front d table i total h e so_far =
-    let next : flat_map (λ t. t) (drop i table) ≡ get_or table i [] ++ flat_map (λ t. t) (drop (i + 1) table) = at_drop_more (flat_map (λ t. t)) table i [] h in
-    let added : flat_map descriptor (front ++ d ∷ []) ≡ flat_map descriptor front ++ descriptor d = flat_map-append descriptor front (d ∷ []) in
-    let rest = flat_map (λ (t : List ℕ). t) (drop (i + 1) table) in
-    ap (λ (t : List ℕ). t ++ rest) added
-    ∙ append_assoc (flat_map descriptor front) (descriptor d) rest
-    ∙ ap (λ (t : List ℕ). flat_map descriptor front ++ (t ++ rest)) e
-    ∙ ap (λ (t : List ℕ). flat_map descriptor front ++ t) (sym next)
-    ∙ so_far
-
 -- the same bits are wrong in the bytes and in the table cut from them
 same_bits : (bytes : List ℕ) (table : List (List ℕ)) → HasPlaces bytes table → (k i : ℕ) → k < length table → i < 16 → wrong_bits_at table k i ≡ wrong_bits bytes k i
 same_bits bytes table places k i h l = ap (λ b. bit_and (get_or reserved_bits i 0) b) (places k i h l)
@@ -79,11 +70,6 @@ pub bytes_are_clean : (bytes : List ℕ) (table : List (List ℕ)) → length ta
 bytes_are_clean bytes table len places clean k i h l =
     let inside : k < length table = omega (arith, len) in
     sym (same_bits bytes table places k i inside l) ∙ clean k i inside l
-
-pub table_is_clean : (bytes : List ℕ) (table : List (List ℕ)) → length table ≡ announced_sources bytes → HasPlaces bytes table
-    → ((k i : ℕ) → k < announced_sources bytes → i < 16 → wrong_bits bytes k i ≡ 0) → IsClean table
-table_is_clean bytes table len places clean k i h l =
-    same_bits bytes table places k i h l ∙ clean k i (omega (arith, len)) l
 
 pub lowest_of_bytes : (bytes : List ℕ) (intdata : Bool) (wanted : ℕ) (table : List (List ℕ)) (at : ℕ) → HasHead bytes → length bytes ≡ due bytes intdata wanted
     → length table ≡ announced_sources bytes → HasPlaces bytes table → IsLowestOffence table at → OffendsFirst bytes intdata wanted (4 + at)

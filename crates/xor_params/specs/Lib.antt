@@ -1,2 +1,4 @@
 pub mod ParameterLists
+pub mod Contents
+pub mod ListFaults
 pub mod Tables

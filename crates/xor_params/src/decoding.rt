@@ -1,12 +1,12 @@
-ghost use Rattle.std.specs.Prelude.{◌≡◌, ◌<◌, ◌≤◌, ◌+◌, ◌*◌, ◌-◌, ◌^◌, ℕ, length, take, drop, Err, IfOk, IfErr, MatchResult};
-ghost use Rattle.std.specs.List.{flat_map, All};
+ghost use Rattle.std.specs.Prelude.{◌≡◌, ◌≤◌, ◌-◌, ◌^◌, ℕ, length, Err, IfOk, IfErr, MatchResult};
 ghost use Rattle.xor_params.specs.declared.lists.Params.{Params};
 ghost use Rattle.xor_params.specs.declared.lists.ParamFault.TheVariants as param_fault;
-ghost use Rattle.xor_params.specs.ParameterLists.{descriptor, SpellsParams, IsFault, IsShort, HasReserved, IsCrowded, HasHead, HasWrongLength, OffendsFirst, due, wrong_bits, announced_sources, announced_room};
+ghost use Rattle.xor_params.specs.ParameterLists.{SpellsParams, IsFault, IsShort, HasReserved, IsCrowded, HasWrongLength, OffendsFirst, due};
+ghost use Rattle.xor_params.specs.Contents.{HasRoom, params_in};
 
+use crate::contents::{intermediate_in, pad_in, sources_in};
 use crate::faults::check;
 use crate::lists::{ParamFault, Params};
-use crate::tables::{sources_of, table_of};
 use blocks_core::{Bytes, Memory};
 use std::alloc::Global;
 
@@ -25,6 +25,8 @@ pub fn decode(
     ensures found { IfOk result (SpellsParams bytes.now intdata bytes_wanted) }
     // What is spelt so is read, unless memory runs out.
     ensures only { (p : Params) → SpellsParams bytes.now intdata bytes_wanted p → MatchResult result (λ q. q ≡ p) (λ e. e ≡ param_fault.Memory) }
+    // What is read is what the bytes say.
+    ensures contents { IfOk result (λ p. p ≡ params_in bytes.now) }
     // What an answered fault says of the bytes.
     ensures fault { IfErr result (IsFault bytes.now intdata bytes_wanted) }
     // When each fault is answered.
@@ -40,21 +42,12 @@ pub fn decode(
 
 /// The parts of bytes that are a parameter list.
 fn parts_of(alloc: Global, bytes: &[u8]) -> Result<Params, Memory>
-    requires head { HasHead bytes.now }
-    requires whole { 4 + announced_room bytes.now ≤ length bytes.now }
-    requires clean { (k i : ℕ) → k < announced_sources bytes.now → i < 16 → wrong_bits bytes.now k i ≡ 0 }
-    ensures count { IfOk result (λ p. length p.sources ≡ announced_sources bytes.now) }
-    ensures addresses { IfOk result (λ p. All (λ d. d.lba < 2 ^ 32) p.sources) }
-    ensures sources { IfOk result (λ p. flat_map descriptor p.sources ≡ take (16 * announced_sources bytes.now) (drop 4 bytes.now)) }
-    ensures pad { IfOk result (λ p. p.pad ≡ take (announced_room bytes.now - 16 * announced_sources bytes.now) (drop (4 + 16 * announced_sources bytes.now) bytes.now)) }
-    ensures data { IfOk result (λ p. p.intermediate ≡ drop (4 + announced_room bytes.now) bytes.now) }
+    requires { HasRoom bytes.now }
+    ensures { IfOk result (λ p. p ≡ params_in bytes.now) }
 {
-    let room = usize::from(u16::from_be_bytes([bytes[2], bytes[3]]));
-    let pad = 4 + 16 * usize::from(bytes[0]);
-    let data = 4 + room;
     Ok(Params {
-        sources: sources_of(alloc, table_of(bytes))?,
-        pad: Bytes::from_slice(alloc, &bytes[pad..data])?,
-        intermediate: Bytes::from_slice(alloc, &bytes[data..])?,
+        sources: sources_in(alloc, bytes)?,
+        pad: Bytes::from_slice(alloc, pad_in(bytes))?,
+        intermediate: Bytes::from_slice(alloc, intermediate_in(bytes))?,
     })
 }

@@ -1,8 +1,31 @@
-ghost use Rattle.std.specs.Prelude.{◌≡◌, ◌<◌, ◌≤◌, ◌-◌, ◌^◌, ℕ, length, OnOk, IfErr};
-ghost use Rattle.xor_params.specs.ParameterLists.{HasHead, IsRefused, due, wrong_bits, announced_sources};
+ghost use Rattle.std.specs.Prelude.{◌≡◌, ◌<◌, ◌≤◌, ◌-◌, ◌^◌, ℕ, length, Some, None, OnOk, IfErr, MatchOption};
+ghost use Rattle.xor_params.specs.declared.lists.Params.{Params};
+ghost use Rattle.xor_params.specs.declared.lists.ParamFault.{ParamFault};
+ghost use Rattle.xor_params.specs.declared.lists.ParamFault.TheVariants as param_fault;
+ghost use Rattle.xor_params.specs.ParameterLists.{SpellsParams, HasHead, IsRefused, due, wrong_bits, announced_sources};
+ghost use Rattle.xor_params.specs.Contents.{HasRoom};
+ghost use Rattle.xor_params.specs.ListFaults.{list_fault};
 
 use crate::lists::ParamFault;
 use crate::tables::{offence, table_of};
+
+/// The first fault of the bytes as a parameter list (SBC), in the order in which `decode` looks for faults, and with its
+/// parameters; none where they spell a list. No memory is taken, so want of it isn't answered.
+pub fn fault_of(bytes: &[u8], intdata: bool, bytes_wanted: u64) -> Option<ParamFault>
+    requires { bytes_wanted ≤ 2 ^ 64 - 65540 }
+    ensures first { result ≡ list_fault bytes.now intdata bytes_wanted }
+    // What the answer says of the bytes.
+    ensures means { MatchOption result ((p : Params) × SpellsParams bytes.now intdata bytes_wanted p) (IsRefused bytes.now intdata bytes_wanted) }
+    // When there is none, and when each fault is answered.
+    ensures none { (p : Params) → SpellsParams bytes.now intdata bytes_wanted p → result ≡ None }
+    ensures refused { (e : ParamFault) → IsRefused bytes.now intdata bytes_wanted e → result ≡ Some e }
+    // What can then be read of them.
+    ensures room { result ≡ None → HasRoom bytes.now }
+    // A field pointer has room for the byte.
+    ensures near { (byte : ℕ) → result ≡ Some (param_fault.Field byte) → byte < 2 ^ 16 }
+{
+    check(bytes, intdata, bytes_wanted).err()
+}
 
 /// Whether the bytes are a parameter list, or their first fault.
 pub fn check(bytes: &[u8], intdata: bool, bytes_wanted: u64) -> Result<(), ParamFault>

@@ -1,8 +1,8 @@
 //! The descriptors of a parameter list as sixteen bytes each.
 
-ghost use Rattle.std.specs.Prelude.{◌≡◌, ◌<◌, ◌≤◌, ◌+◌, ◌*◌, ◌^◌, [], ◌∷◌, length, take, drop, IfOk, MatchOption};
-ghost use Rattle.std.specs.List.{flat_map, All};
+ghost use Rattle.std.specs.Prelude.{◌≡◌, ◌<◌, ◌≤◌, ◌+◌, ◌*◌, ◌^◌, length, map, IfOk, MatchOption};
 ghost use Rattle.xor_params.specs.ParameterLists.{descriptor, announced_sources};
+ghost use Rattle.xor_params.specs.Contents.{descriptors_in, source_in, is_stranger, first_stranger};
 ghost use Rattle.xor_params.specs.Tables.{HasPlaces, IsClean, IsLowestOffence};
 
 use crate::sources::{Descriptor, Descriptors};
@@ -27,8 +27,8 @@ const RESERVED: [u8; 16] = [
 pub fn table_of(bytes: &[u8]) -> &[[u8; 16]]
     requires head { 4 ≤ length bytes.now }
     requires whole { 4 + 16 * announced_sources bytes.now ≤ length bytes.now }
+    ensures pieces { result.now ≡ descriptors_in bytes.now }
     ensures count { length result.now ≡ announced_sources bytes.now }
-    ensures joined { flat_map (λ d. d) result.now ≡ take (16 * announced_sources bytes.now) (drop 4 bytes.now) }
     ensures places { HasPlaces bytes.now result.now }
 {
     let end = 4 + 16 * usize::from(bytes[0]);
@@ -51,23 +51,38 @@ pub fn offence(table: &[[u8; 16]]) -> Option<u32>
 
 /// The sources that the descriptors name.
 pub fn sources_of(alloc: Global, table: &[[u8; 16]]) -> Result<Descriptors, Memory>
-    requires { IsClean table.now }
-    ensures count { IfOk result (λ sources. length sources ≡ length table.now) }
-    ensures addresses { IfOk result (All (λ d. d.lba < 2 ^ 32)) }
-    ensures bytes { IfOk result (λ sources. flat_map descriptor sources ≡ flat_map (λ d. d) table.now) }
+    ensures { IfOk result (λ sources. sources ≡ map source_in table.now) }
 {
     let mut sources = Descriptors::new(alloc);
-    for bytes in table {
-        sources.push(source_of(bytes))?;
+    for descriptor in table {
+        sources.push(source_of(descriptor))?;
     }
     Ok(sources)
 }
 
+/// Where the first descriptor has its target's number that names none of so many targets, or the target
+/// `number`: counted from the list's start.
+pub fn first_stranger(table: &[[u8; 16]], targets: u8, number: u8) -> Option<u16>
+    requires { length table.now ≤ 255 }
+    ensures { result ≡ first_stranger 0 targets number (map source_in table.now) }
+{
+    for (k, descriptor) in table.iter().enumerate() {
+        if is_stranger(&source_of(descriptor), targets, number) {
+            return Some(4 + 16 * k as u16 + 7);
+        }
+    }
+    None
+}
+
+fn is_stranger(source: &Descriptor, targets: u8, number: u8) -> bool
+    ensures { result ≡ is_stranger targets number source.now }
+{
+    source.target >= targets || source.target == number
+}
+
 /// The source that a descriptor names.
 fn source_of(bytes: &[u8; 16]) -> Descriptor
-    requires { IsClean (bytes.now ∷ []) }
-    ensures bytes { descriptor result ≡ bytes.now }
-    ensures address { result.lba < 2 ^ 32 }
+    ensures { result ≡ source_in bytes.now }
 {
     descriptor!(get bytes)
 }

@@ -1,18 +1,19 @@
 use Rattle.std.proofs.Common.{◌≡◌, ◌*◌, ◌+◌, ◌-◌, ◌/◌, ◌<◌, ℕ, List, [], length, get_or, take, drop, ap, ◌∙◌, arith}
-use Rattle.std.specs.List.{flat_map}
+use Rattle.std.specs.Simd.{first_chunks}
 use Rattle.std.proofs.lemmas.List.{length-take, length-drop, get_or-take, get_or-drop}
 use Rattle.xor_params.specs.ParameterLists.{announced_sources, place}
-use Rattle.xor_params.proofs.TableLemmas.{joined_pieces, byte_of_piece}
+use Rattle.xor_params.proofs.TableLemmas.{chunks-of-front, byte_of_piece}
 use Rattle.xor_params.proofs.tables.table_of.Goals as goal
 
-pub returns-clause-joined : goal.returns-clause-joined
-returns-clause-joined c =
+pub returns-clause-pieces : goal.returns-clause-pieces
+returns-clause-pieces c =
     let bytes = c.args.bytes.now in
     let end = 4 + 16 * c.from.result - 4 in
     let part = take end (drop 4 bytes) in
-    let len : 16 * (length part / 16) ≡ length part = omega (arith, length-take end (drop 4 bytes), length-drop 4 bytes, c.requires.whole) in
-    let same : end ≡ 16 * announced_sources bytes = omega arith in
-    ap (flat_map (λ (d : List ℕ). d)) c.as_chunks.ensures.front ∙ joined_pieces (length part / 16) part len ∙ ap (λ (s : ℕ). take s (drop 4 bytes)) same
+    let n = announced_sources bytes in
+    let count : length part / 16 ≡ n = omega (arith, length-take end (drop 4 bytes), length-drop 4 bytes, c.requires.whole) in
+    let same : end ≡ 16 * n = omega arith in
+    c.as_chunks.ensures.front ∙ ap (λ (k : ℕ). first_chunks 16 k part) count ∙ ap (λ (e : ℕ). first_chunks 16 n (take e (drop 4 bytes))) same ∙ chunks-of-front n (drop 4 bytes)
 
 pub returns-clause-places : goal.returns-clause-places
 returns-clause-places c k i h l =
