@@ -1,6 +1,7 @@
 pub mod FactSteps
 pub mod LogLaws
 pub mod CdbRows
+pub mod ListRows
 pub mod BlockCounts
 pub mod TakenBlocks
 pub mod StoodRows

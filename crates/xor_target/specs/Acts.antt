@@ -23,7 +23,7 @@ use Rattle.xor_target.specs.Befalls.{IsFresh}
 use Rattle.xor_target.specs.Disks.{DiskState, HasFailed}
 use Rattle.xor_target.specs.declared.admission.Admitted.{Admitted}
 use Rattle.xor_target.specs.Admission.{command_in, row_of, count_of, data_due, IsServed, AsksForKept, HasSoundList}
-use Rattle.xor_target.specs.State.{TargetState, state_of}
+use Rattle.xor_target.specs.State.{TargetState, state_of, limits_of}
 use Rattle.xor_target.specs.Table.{is_take, early_answer}
 use Rattle.xor_target.specs.Effects.{Effect, effect_of, rewritten}
 use Rattle.xor_target.specs.Logs.{Logged}
@@ -123,7 +123,7 @@ pub record IsAdmitted (t : TargetState) (order : Order) (admitted : Admitted) : 
   pub fits : row_of admitted.command + count_of admitted.command ≤ 2 ^ 32
   pub due : length order.bytes ≡ data_due t.block admitted.command
   pub kept : AsksForKept admitted.command
-  pub listed : HasSoundList admitted.command order.bytes
+  pub listed : HasSoundList (limits_of t) admitted.command order.bytes
 
 -- a fresh disk came, or the medium failed at it; the mode page isn't the disk's
 abbrev pub IsRenewedAs : Bool → ℕ → XorPage → XorPage → DiskState → Logged → ℕ → At → ℕ → DiskState → Logged → Result (List At) GoneAt → Type 0

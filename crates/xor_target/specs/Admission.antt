@@ -1,6 +1,6 @@
 -- What a target refuses before it looks at its own state: the rows of one table, in the order in which they are tested
 -- (SBC, the XOR commands; SPC, the MODE commands).
-use Rattle.std.specs.Prelude.{◌≡◌, ◌≤◌, ◌++◌, ℕ, ◌+◌, ◌*◌, ◌==◌, ◌||◌, ◌&&◌, not, Bool, nat_lt, List, [], ◌∷◌, length, slice_index, Option, Some, None, option_map, is_none, unwrap_or}
+use Rattle.std.specs.Prelude.{◌≡◌, ◌≤◌, ◌++◌, ℕ, ◌+◌, ◌*◌, ◌==◌, ◌||◌, ◌&&◌, not, Bool, nat_lt, List, [], ◌∷◌, length, slice_index, Option, Some, None, option_map, is_none, unwrap_or, if◌then◌else◌}
 use Rattle.std.specs.Bool.{then_some}
 use Rattle.sense_data.specs.declared.senses.Sense.{Sense}
 use Rattle.sense_data.specs.Illegal.{illegal, in_cdb, in_list}
@@ -13,6 +13,10 @@ use Rattle.xor_mode_page.specs.declared.pages.XorPage.{XorPage}
 use Rattle.xor_mode_page.specs.declared.pages.PageFault.{PageFault}
 use Rattle.xor_mode_page.specs.declared.pages.PageFault.TheVariants as page_faults
 use Rattle.xor_mode_page.specs.Pages.{list_fault}
+use Rattle.xor_params.specs.declared.lists.ParamFault.{ParamFault}
+use Rattle.xor_params.specs.declared.lists.ParamFault.TheVariants as param_faults
+use Rattle.xor_params.specs.Contents.{HasRoom, stranger_in}
+use Rattle.xor_params.specs.ListFaults as params
 use Rattle.xor_target.specs.declared.limits.TargetLimits.{TargetLimits}
 
 -- the first row that answers
@@ -129,14 +133,37 @@ data_due block (Regenerate dpo fua intdata lba count list) = list
 abbrev pub wrong_amount : TargetLimits → Command → List ℕ → Option Sense
 wrong_amount limits command bytes = then_some (not (length bytes == data_due limits.block command)) (illegal 0x1a 0 None)
 
+-- a field in error of a list
+abbrev pub wrong_in_list : ℕ → Sense
+wrong_in_list byte = illegal 0x26 0 (Some (in_list byte))
+
 -- the sense of a fault of a MODE SELECT list
 abbrev pub page_sense : PageFault → Sense
 page_sense (page_faults.Length want got) = illegal 0x1a 0 None
-page_sense (page_faults.Field byte) = illegal 0x26 0 (Some (in_list byte))
+page_sense (page_faults.Field byte) = wrong_in_list byte
 
-abbrev pub wrong_list : Command → List ℕ → Option Sense
-wrong_list (ModeSelect pf sp list) bytes = option_map page_sense (list_fault bytes)
-wrong_list command bytes = None
+-- The sense of a fault of a list of sources. Want of memory is none of the list's.
+abbrev pub param_sense : Option ParamFault → Option Sense
+param_sense None = None
+param_sense (Some (param_faults.Length want got)) = Some (illegal 0x1a 0 None)
+param_sense (Some (param_faults.Field byte)) = Some (wrong_in_list byte)
+param_sense (Some param_faults.Memory) = None
+
+-- The fault of the list that came with a REBUILD or a REGENERATE of so many blocks: the first of the list itself, then the
+-- first source that is no target, or this one. With no blocks to make, what the list says isn't looked at.
+abbrev pub wrong_sources : TargetLimits → Bool → ℕ → List ℕ → Option Sense
+wrong_sources limits intdata count bytes =
+    if count == 0 then None
+    else first_some
+    (param_sense (params.list_fault bytes intdata (count * limits.block))
+    ∷ option_map wrong_in_list (stranger_in limits.targets limits.number bytes)
+    ∷ [])
+
+abbrev pub wrong_list : TargetLimits → Command → List ℕ → Option Sense
+wrong_list limits (ModeSelect pf sp list) bytes = option_map page_sense (list_fault bytes)
+wrong_list limits (Rebuild dpo fua intdata lba count list) bytes = wrong_sources limits intdata count bytes
+wrong_list limits (Regenerate dpo fua intdata lba count list) bytes = wrong_sources limits intdata count bytes
+wrong_list limits command bytes = None
 
 -- ---- the table
 
@@ -154,7 +181,7 @@ command_rows limits page command bytes =
     ∷ unknown_page command
     ∷ out_of_range limits command
     ∷ wrong_amount limits command bytes
-    ∷ wrong_list command bytes
+    ∷ wrong_list limits command bytes
     ∷ []
 
 -- The sense of the first row that refuses a CDB and the bytes that came with it, at a target with this page; none where
@@ -176,7 +203,15 @@ abbrev pub AsksForKept : Command → Type 0
 AsksForKept (ModeSense dbd pc page_code allocation) = pc ≤ 2
 AsksForKept command = Unit {0}
 
--- the bytes that came with a MODE SELECT are a list of it
-abbrev pub HasSoundList : Command → List ℕ → Type 0
-HasSoundList (ModeSelect pf sp list) bytes = list_fault bytes ≡ None
-HasSoundList command bytes = Unit {0}
+-- the bytes are a list for a command of so many blocks, and its sources are other targets
+pub record HasSources (limits : TargetLimits) (intdata : Bool) (count : ℕ) (bytes : List ℕ) : Type 0 where
+  pub sound : params.list_fault bytes intdata (count * limits.block) ≡ None
+  pub room : HasRoom bytes
+  pub known : stranger_in limits.targets limits.number bytes ≡ None
+
+-- the bytes that came with a MODE SELECT, and with a REBUILD or a REGENERATE of some blocks, are a list of it
+abbrev pub HasSoundList : TargetLimits → Command → List ℕ → Type 0
+HasSoundList limits (ModeSelect pf sp list) bytes = list_fault bytes ≡ None
+HasSoundList limits (Rebuild dpo fua intdata lba count list) bytes = 1 ≤ count → HasSources limits intdata count bytes
+HasSoundList limits (Regenerate dpo fua intdata lba count list) bytes = 1 ≤ count → HasSources limits intdata count bytes
+HasSoundList limits command bytes = Unit {0}

@@ -4,13 +4,16 @@
 ghost use Rattle.std.specs.Prelude.{◌≡◌, ◌≤◌, ◌+◌, length, Some, None, IfOk, IfErr};
 ghost use Rattle.sense_data.specs.Illegal.{illegal, in_cdb};
 ghost use Rattle.sbc_cdbs.specs.Cdbs.{SpellsCdb, cdb_bytes};
-ghost use Rattle.xor_target.specs.Admission.{first_some, command_in, row_of, count_of, maximum_of, is_over, too_long, wrong_secondary, wrong_select, saved_values, unknown_page, is_unserved, out_of_range, data_due, wrong_amount, page_sense, wrong_list, cdb_rows, command_rows, refusal_of, IsServed, AsksForKept, HasSoundList};
+ghost use Rattle.xor_target.specs.Admission.{first_some, command_in, row_of, count_of, maximum_of, is_over, too_long, wrong_secondary, wrong_select, saved_values, unknown_page, is_unserved, out_of_range, data_due, wrong_amount, wrong_list, cdb_rows, command_rows, refusal_of, IsServed, AsksForKept, HasSoundList};
 ghost use Rattle.xor_target.specs.Codes.{is_shut_out, fault_sense};
 
+mod lists;
+
 use crate::limits::TargetLimits;
+use lists::wrong_list;
 use sbc_cdbs::{Cdb, CdbFault, Command, decode, encode, is_xor_code};
 use sense_data::{Pointer, Sense};
-use xor_mode_page::{PageFault, XorPage, select};
+use xor_mode_page::XorPage;
 
 /// A command that a target may look at its own state for, and the CDB that it came as.
 #[derive(Clone, Copy, Debug, PartialEq, Eq)]
@@ -30,8 +33,6 @@ const OPERATION_CODE: u8 = 0x20;
 const BLOCK_RANGE: u8 = 0x21;
 
 const FIELD_IN_CDB: u8 = 0x24;
-
-const FIELD_IN_LIST: u8 = 0x26;
 
 const SAVING: u8 = 0x39;
 
@@ -54,7 +55,7 @@ pub fn admit(
     ensures in_range { IfOk result (λ a. row_of a.command + count_of a.command ≤ limits.now.rows) }
     ensures due { IfOk result (λ a. length bytes.now ≡ data_due limits.now.block a.command) }
     ensures kept { IfOk result (λ a. AsksForKept a.command) }
-    ensures listed { IfOk result (λ a. HasSoundList a.command bytes.now) }
+    ensures listed { IfOk result (λ a. HasSoundList limits.now a.command bytes.now) }
 {
     let command = decoded(page, cdb)?;
     match command_refusal(limits, page, &command, bytes) {
@@ -139,7 +140,7 @@ fn command_refusal(
         unknown_page(command),
         out_of_range(limits, command),
         wrong_amount(limits, command, bytes),
-        wrong_list(page, command, bytes),
+        wrong_list(limits, page, command, bytes),
     ])
 }
 
@@ -275,30 +276,5 @@ fn data_due(block: u32, command: &Command) -> u64
         Command::ModeSelect { list, .. } => u64::from(list),
         Command::Rebuild { list, .. } | Command::Regenerate { list, .. } => u64::from(list),
         Command::Read { .. } | Command::XdRead { .. } | Command::ModeSense { .. } => 0,
-    }
-}
-
-/// MODE SELECT: the fault of its list. The target's own page isn't set here.
-fn wrong_list(page: &XorPage, command: &Command, bytes: &[u8]) -> Option<Sense>
-    ensures { result ≡ wrong_list command.now bytes.now }
-{
-    if !matches!(command, Command::ModeSelect { .. }) {
-        return None;
-    }
-    let mut trial = *page;
-    match select(&mut trial, bytes) {
-        Ok(()) => None,
-        Err(fault) => Some(page_sense(fault)),
-    }
-}
-
-fn page_sense(fault: PageFault) -> Sense
-    ensures { result ≡ page_sense fault }
-{
-    match fault {
-        PageFault::Length { .. } => Sense::illegal(PARAMETER_LIST_LENGTH, 0, None),
-        PageFault::Field { byte } => {
-            Sense::illegal(FIELD_IN_LIST, 0, Some(Pointer::in_list(byte)))
-        }
     }
 }
