@@ -19,6 +19,8 @@ pub mod ShapeScripts
 pub mod AreaWalk
 pub mod ShapeWalk
 pub mod HeadWalk
+pub mod CallRanges
+pub mod TurnsWalk
 pub mod CallWalk
 pub mod Refused
 pub mod PrintedText

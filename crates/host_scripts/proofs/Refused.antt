@@ -11,7 +11,8 @@ use Rattle.host_scripts.proofs.Again.{script-again}
 use Rattle.host_scripts.proofs.WholeReading.{IsReading}
 use Rattle.host_scripts.proofs.Places.{Near}
 use Rattle.host_scripts.proofs.HeadWalk.{whole, start_of, IsHead, HeadRead, head-outcome}
-use Rattle.host_scripts.proofs.CallWalk.{so-far, front, turns-number, OrderRead, order-outcome, CallsRead, calls-outcome}
+use Rattle.host_scripts.proofs.TurnsWalk.{so-far, front, turns-number, OrderRead, order-outcome}
+use Rattle.host_scripts.proofs.CallWalk.{CallsRead, calls-outcome}
 
 -- the number of the first line behind the header and the turns
 first-number : (h : Head) → IsHead h → (order : List ℕ) → first_line (turns_line h) order ≡ length (front h order) + 1
