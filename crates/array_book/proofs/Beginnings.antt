@@ -1,5 +1,5 @@
 -- How a piece is begun: what stands in the way of it, the verdict, and the opening.
-use Rattle.std.proofs.Common.{◌≡◌, ◌≢◌, ◌<◌, ◌≤◌, ℕ, Bool, true, false, List, Option, Some, None, refl, sym, ap, ◌∙◌, subst, arith, inl, inr}
+use Rattle.std.proofs.Common.{◌≡◌, ◌<◌, ◌≤◌, ℕ, Bool, true, false, List, Option, Some, None, refl, sym, ap, ◌∙◌, subst, arith, inl, inr}
 use Rattle.std.specs.List.{list_any}
 use Rattle.std.specs.Prelude.{MatchOption, is_some, Result, Ok}
 use Rattle.std.proofs.lemmas.Bool.{false≢true}
@@ -25,7 +25,7 @@ use Rattle.array_book.specs.declared.asks.Aim.{Aim}
 use Rattle.array_book.specs.declared.asks.Ask.{Ask}
 use Rattle.array_book.specs.declared.beginning.Verdict.{Verdict}
 use Rattle.array_book.specs.declared.beginning.Verdict.TheVariants.{Open, Wait, Refuse}
-use Rattle.array_book.specs.Asks.{IsWant, IsTaskAt, aim_of, decided, decided_at}
+use Rattle.array_book.specs.Asks.{IsWant, IsTaskAt, aim_of, decided_at}
 use Rattle.array_book.specs.Begins.{asked_task, MayBegin, IsToOpen, IsVerdict, wait_of}
 use Rattle.array_book.specs.BookAnswers.{HasToWait, HasOpened, HasToWaitForSwap}
 use Rattle.array_book.specs.Ledgers.{Ledger, AreNumbered, next_name, with_event}
@@ -47,6 +47,14 @@ no-such test past numbered none c so = by_found (first_open test past) refl
     by_found None is = least-open test past None numbered (sym is) c so
     by_found (Some by) is =
         false≢true (sym none ∙ sym (first-some test (open_commands past) (open_tasks past) (length-open_tasks past)) ∙ ap (λ (o : Option ℕ). is_some o) is)
+
+-- where no open command passes, none of their tasks does
+pub none-passes : (test : Task → Bool) (past : List Entry) → AreNumbered past → ((c : ℕ) → IsOpenSo past test c → ⊥) → list_any test (open_tasks past) ≡ false
+none-passes test past numbered none = by_found (first_open test past) refl
+  where
+    by_found : (found : Option ℕ) → first_open test past ≡ found → list_any test (open_tasks past) ≡ false
+    by_found None is = sym (first-some test (open_commands past) (open_tasks past) (length-open_tasks past)) ∙ ap (λ (o : Option ℕ). is_some o) is
+    by_found (Some by) is = absurd (none by (least-open test past (Some by) numbered (sym is)).one)
 
 -- the least command that acts at a slot
 pub least-at : (s : Setting) (past : List Entry) (slot : ℕ) (found : Option ℕ) → AreNumbered past → found ≡ first_open (λ task. is_target s task slot) past →
@@ -74,18 +82,23 @@ waits-none s past task numbered free by (inl h) =
 waits-none s past task numbered free by (inr h) = false≢true (sym h.full ∙ free.room)
 
 -- the least that a task conflicts with
-pub waits-conflict : (s : Setting) (past : List Entry) (task : Task) (by : ℕ) → AreNumbered past → Some by ≡ first_open (tasks_conflict task) past → WaitsFor s past task by
-waits-conflict s past task by numbered is = inl (least-open (tasks_conflict task) past (Some by) numbered is)
+pub least-conflict : (past : List Entry) (task : Task) (found : Option ℕ) → AreNumbered past →
+    MatchOption found ((c : ℕ) → IsOpenSo past (tasks_conflict task) c → ⊥) (λ by. IsLeastOpen past (tasks_conflict task) by) →
+    MatchOption found (some_at 0 (opens_conflict past task) past ≡ false) (λ by. IsLeastOpen past (tasks_conflict task) by)
+least-conflict past task None numbered none = conflict-open past task ∙ none-passes (tasks_conflict task) past numbered none
+least-conflict past task (Some by) numbered least = least
 
 -- the least that holds blocks where room is lacking
 pub waits-room : (s : Setting) (past : List Entry) (task : Task) (i : ℕ) (found : Option ℕ) → AreNumbered past → task.count ≤ s.buffer →
-    some_at 0 (opens_conflict past task) past ≡ false → has_room s task past ≡ false → Some i ≡ holder_of s task.kind task → found ≡ first_open (holds_at s i) past →
+    some_at 0 (opens_conflict past task) past ≡ false → has_room s task past ≡ false → Some i ≡ holder_of s task.kind task →
+    MatchOption found ((c : ℕ) → IsOpenSo past (holds_at s i) c → ⊥) (λ by. IsLeastOpen past (holds_at s i) by) →
     MatchOption found (IsFree s past task) (λ by. WaitsFor s past task by)
-waits-room s past task i None numbered small alone full at is = absurd (room-lacks s task past i small (sym at) full (sym is))
-waits-room s past task i (Some by) numbered small alone full at is = inr (record {
+waits-room s past task i None numbered small alone full at none =
+    absurd (room-lacks s task past i small (sym at) full (none-passes (holds_at s i) past numbered none))
+waits-room s past task i (Some by) numbered small alone full at least = inr (record {
   alone = alone;
   full = full;
-  least = subst (λ (o : Option ℕ). IsLeastOpen past (fills s o) by) at (least-open (holds_at s i) past (Some by) numbered is);
+  least = subst (λ (o : Option ℕ). IsLeastOpen past (fills s o) by) at least;
 })
 
 -- a buffer is asked for no room where no blocks are held
@@ -165,7 +178,18 @@ looked book ask (Refuse why) refused = λ by h. other why h.kind (sym refused �
 
 -- ---- the opening
 
-new-number : (past : List Entry) (c : ℕ) → AreNumbered past → c ≡ open_count past → some_at 0 (opens_command c) past ≡ false
+-- the task of what is to be opened is sound
+pub asked-sound : (book : Ledger) (ask : Ask) (kind : Kind) (aim : Aim) → IsSetting book.setting → IsWant book.setting ask.want → aim_of book.setting.geometry ask.want ≡ Ok aim →
+    decision book.setting aim.want aim.stripe aim.target book.past ≡ Opens kind → IsTask book.setting (asked_task book ask kind aim)
+asked-sound book ask kind aim setting want at dec =
+    task-sound book.setting ask.call ask.piece ask.want kind aim setting want at (opens-wanted book.setting aim.want aim.stripe aim.target book.past kind dec)
+
+pub opens-sound : (book : Ledger) (ask : Ask) (kind : Kind) (aim : Aim) → IsSetting book.setting → IsWant book.setting ask.want → IsToOpen book ask kind aim →
+    IsTask book.setting (asked_task book ask kind aim)
+opens-sound book ask kind aim setting want o =
+    asked-sound book ask kind aim setting want o.at_rows (ap (decided_at book.setting book.past) (sym o.at_rows) ∙ o.decided_so)
+
+pub new-number : (past : List Entry) (c : ℕ) → AreNumbered past → c ≡ open_count past → some_at 0 (opens_command c) past ≡ false
 new-number past c numbered is = by_test (some_at 0 (opens_command c) past) refl
   where
     by_test : (b : Bool) → some_at 0 (opens_command c) past ≡ b → b ≡ false
@@ -184,7 +208,7 @@ has-opened old ask kind aim stamp new at command task setting numbered want o ta
       decided_so = o.decided_so ∙ ap Opens (sym kind_is);
       task_is = subst (λ (r : Result Aim Sense). IsTaskAt old.setting.geometry ask task.kind r task) (sym o.at_rows)
           (task_eq ∙ ap (λ (k : Kind). asked_task old ask k aim) (sym kind_is));
-      asked = subst (λ (t : Task). IsTask old.setting t) (sym task_eq) (task-sound old.setting ask.call ask.piece ask.want kind aim setting want o.at_rows wanted);
+      asked = subst (λ (t : Task). IsTask old.setting t) (sym task_eq) (opens-sound old ask kind aim setting want o);
       found = subst (λ (t : Task). FoundOpen old.setting old.past command t) (sym task_eq) (record {
         numbered = command_eq;
         decided = ap (λ (w : Service). decision old.setting w aim.stripe aim.target old.past) wanted ∙ dec;

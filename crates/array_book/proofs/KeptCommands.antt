@@ -1,8 +1,6 @@
 -- What is known of commands, kept over one more entry.
 use Rattle.std.proofs.Common.{◌≡◌, ℕ, ◌+◌, suc, Bool, true, false, not, List, [], ◌∷◌, ◌++◌, Option, Some, refl, sym, ap, ◌∙◌, cond, length, arith, inl, inr}
 use Rattle.std.specs.Prelude.{◌==◌, ◌&&◌, ◌||◌, filter}
-use Rattle.std.specs.BTreeMap.{get}
-use Rattle.std.specs.Ordering.{nat_cmp}
 use Rattle.std.proofs.lemmas.Bool.{cases_eq, eq-eqb, ne_eqb}
 use Rattle.std.proofs.lemmas.List.{append-nil}
 use Rattle.std.proofs.lemmas.List.Elements.{filter-append}
@@ -19,6 +17,7 @@ use Rattle.array_book.specs.declared.commands.open_commands.OpenCommands.{OpenCo
 use Rattle.array_book.specs.CommandSteps.{CommandStep}
 use Rattle.array_book.specs.CommandSteps.{Opens, Ends, Neither}
 use Rattle.array_book.specs.CommandSteps.{step_of}
+use Rattle.array_book.specs.Numbered.{value_of}
 use Rattle.array_book.specs.Openings.{KeepsOpenings, opening_place}
 use Rattle.array_book.specs.Endings.{KeepsEndings, has_ended_in, is_done_in}
 use Rattle.array_book.specs.OpenCommands.{KeepsOpen, has_ended, open_by, open_in}
@@ -36,7 +35,7 @@ openings-kept step e past part is none quiet keeps = record {
 
 -- openings, after one more
 pub openings-more : (command place : ℕ) (e : Entry) (past : List Entry) (old new : Openings) → step_of e ≡ Opens command → length past ≡ place →
-    ((c : ℕ) → get nat_cmp new.places c ≡ cond (command == c) (Some place) (get nat_cmp old.places c)) → new.count ≡ old.count + 1 →
+    ((c : ℕ) → value_of new.places c ≡ cond (command == c) (Some place) (value_of old.places c)) → new.count ≡ old.count + 1 →
     KeepsOpenings past old → KeepsOpenings (e ∷ past) new
 openings-more command place e past old new is at places count keeps = record {
   places = λ c. places c ∙ ap (λ (o : Option ℕ). cond (command == c) (Some place) o) (keeps.places c)
@@ -56,6 +55,14 @@ endings-kept step e past part is none quiet keeps = record {
       ∙ sym (ended-step c e past ∙ ap (λ (b : Bool). b || some_at 0 (ends_command c) past) (ap (ends_so c) is ∙ none c));
   done = λ c. keeps.done c
       ∙ sym (done-step c e past ∙ ap (λ (b : Bool). b || some_at 0 (closes_done c) past) (ap (done_so c) is ∙ quiet c));
+}
+
+-- ends that are kept otherwise
+pub endings-same : (past : List Entry) (old new : Endings) → ((c : ℕ) → has_ended_in new c ≡ has_ended_in old c) →
+    ((c : ℕ) → is_done_in new c ≡ is_done_in old c) → KeepsEndings past old → KeepsEndings past new
+endings-same past old new ended done keeps = record {
+  ended = λ c. ended c ∙ keeps.ended c;
+  done = λ c. done c ∙ keeps.done c;
 }
 
 -- ends, after one more

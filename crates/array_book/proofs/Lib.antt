@@ -13,4 +13,9 @@ pub mod LeastOpen
 pub mod SoundTasks
 pub mod Opened
 mod Findings
+pub mod EndedSums
+pub mod IndexSteps
+pub mod IndexReads
+pub mod Scans
 pub mod Beginnings
+pub mod KeptBooks

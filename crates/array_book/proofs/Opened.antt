@@ -1,7 +1,7 @@
 -- What is opened is what was wanted, and what stands in the way of a task doesn't hang on its bytes.
-use Rattle.std.proofs.Common.{◌≡◌, ◌≤◌, ◌+◌, ℕ, Bool, true, false, List, [], ◌∷◌, Option, Some, None, cond, refl, sym, ap, ◌∙◌, arith}
+use Rattle.std.proofs.Common.{◌≡◌, ◌≤◌, ◌+◌, ℕ, Bool, true, false, List, [], ◌∷◌, Some, cond, refl, sym, ap, ◌∙◌, arith}
 use Rattle.std.specs.List.{list_any, sum_by}
-use Rattle.std.specs.Prelude.{◌==◌, nat_le, not, ◌&&◌, ◌||◌, is_some}
+use Rattle.std.specs.Prelude.{◌==◌, nat_le, not, ◌&&◌, ◌||◌}
 use Rattle.std.proofs.lemmas.Bool.{false≢true, le-leb}
 use Rattle.std.proofs.lemmas.List.Sums.{sum_by-cons}
 use Rattle.stripe_layout.specs.Layout.{parity_of}
@@ -19,11 +19,8 @@ use Rattle.array_journal.specs.declared.task.Task.{Task}
 use Rattle.array_journal.specs.Decision.{want_of, decision, missing_count, holds_at, holder_of, has_room, has_room_at, held_count}
 use Rattle.array_journal.specs.Listed.{is_listed}
 use Rattle.array_journal.specs.Lives.{is_missing, is_unfitted}
-use Rattle.array_book.specs.OpenCommands.{open_commands, open_tasks}
-use Rattle.array_book.specs.OpenTasks.{first_open}
-use Rattle.array_book.proofs.FirstOpen.{first-some}
+use Rattle.array_book.specs.OpenCommands.{open_tasks}
 use Rattle.array_book.proofs.OpenLaws.{held_by, held-open}
-use Rattle.array_book.proofs.OpenPlaces.{length-open_tasks}
 
 -- a line of the table that opens nothing else is passed over
 opens-else : (b : Bool) (why : Why) (d : Decision) (kind : Kind) → cond b (Refuses why) d ≡ Opens kind → d ≡ Opens kind
@@ -95,10 +92,8 @@ none-held s i (task ∷ tasks) h = by_test (holds_at s i task) refl h (none-held
 
 -- a buffer that lacks room for no more than it has holds blocks of some open command
 pub room-lacks : (s : Setting) (task : Task) (past : List Entry) (i : ℕ) → task.count ≤ s.buffer → holder_of s task.kind task ≡ Some i → has_room s task past ≡ false →
-    first_open (holds_at s i) past ≡ None → ⊥
-room-lacks s task past i small at full none =
-    let any : list_any (holds_at s i) (open_tasks past) ≡ false =
-    sym (first-some (holds_at s i) (open_commands past) (open_tasks past) (length-open_tasks past)) ∙ ap (λ (o : Option ℕ). is_some o) none in
+    list_any (holds_at s i) (open_tasks past) ≡ false → ⊥
+room-lacks s task past i small at full any =
     let zero_held : held_count s past i past ≡ 0 = held-open s past i ∙ none-held s i (open_tasks past) any in
     let fits : held_count s past i past + task.count ≤ s.buffer = omega (arith, zero_held, small) in
     false≢true (sym full ∙ ap (has_room_at s task past) at ∙ le-leb (held_count s past i past + task.count) s.buffer fits)

@@ -6,6 +6,7 @@ use Rattle.array_journal.specs.declared.event.Event.{Event}
 use Rattle.array_journal.specs.declared.event.Event.TheVariants.{Open}
 use Rattle.array_journal.specs.declared.setting.Setting.{Setting}
 use Rattle.array_journal.specs.Commands.{open_count}
+use Rattle.array_journal.specs.May.{IsTask}
 
 pub record Ledger : Type 0 where
   pub setting : Setting
@@ -36,6 +37,15 @@ IsNumbered _ past = Unit {0}
 abbrev pub AreNumbered : List Entry → Type 0
 AreNumbered [] = Unit {0}
 AreNumbered (e ∷ past) = IsNumbered e.event past × AreNumbered past
+
+-- the task of an opening is sound
+abbrev pub IsSoundOpening : Setting → Event → Type 0
+IsSoundOpening s (Open command task) = IsTask s task
+IsSoundOpening s _ = Unit {0}
+
+abbrev pub AreSound : Setting → List Entry → Type 0
+AreSound s [] = Unit {0}
+AreSound s (e ∷ past) = IsSoundOpening s e.event × AreSound s past
 
 -- these are entries of the book, each with a greater stamp than those before it
 abbrev pub AreInOrder : List Entry → Type 0

@@ -1,5 +1,6 @@
 pub mod Slots
 pub mod CommandSteps
+pub mod Numbered
 pub mod Openings
 pub mod Endings
 pub mod OpenCommands
@@ -7,11 +8,11 @@ pub mod KnownCommands
 pub mod Noted
 pub mod Dirty
 pub mod OpenTasks
+pub mod OpenIndexes
 pub mod Ledgers
 pub mod BookStates
 pub mod Decisions
 pub mod Asks
-pub mod Questions
 pub mod Waits
 pub mod BookAnswers
 pub mod Begins

@@ -1,14 +1,13 @@
 -- Where the opening of each command stands. A list called past has the newest entry first; a place counts entries
 -- from the oldest, from 0.
 use Rattle.std.specs.Prelude.{◌≡◌, ◌==◌, ◌&&◌, ℕ, List, [], ◌∷◌, Option, Some, None, length, if◌then◌else◌}
-use Rattle.std.specs.BTreeMap.{get}
-use Rattle.std.specs.Ordering.{nat_cmp}
 use Rattle.array_journal.specs.declared.entry.Entry.{Entry}
 use Rattle.array_journal.specs.declared.event.Event.{Event}
 use Rattle.array_journal.specs.declared.event.Event.TheVariants.{Open}
 use Rattle.array_journal.specs.declared.task.Task.{Task}
 use Rattle.array_journal.specs.Commands.{opens_command, open_count}
 use Rattle.array_book.specs.declared.commands.openings.Openings.{Openings}
+use Rattle.array_book.specs.Numbered.{value_of}
 
 -- where the newest opening of a command stands
 abbrev pub opening_place : ℕ → List Entry → Option ℕ
@@ -17,7 +16,7 @@ opening_place c (e ∷ past) = if (e.lock == 0) && opens_command c e.event then 
 
 -- the newest opening of each command, and how many openings there are
 pub record KeepsOpenings (past : List Entry) (part : Openings) : Type 0 where
-  pub places : (c : ℕ) → get nat_cmp part.places c ≡ opening_place c past
+  pub places : (c : ℕ) → value_of part.places c ≡ opening_place c past
   pub counted : part.count ≡ open_count past
 
 -- the task of an opening

@@ -1,22 +1,19 @@
 //! How a piece is begun: what the book decides of it, and whether it has to wait.
 
-ghost use Rattle.std.specs.Prelude.{◌≡◌, ◌≤◌, ℕ, false, IfOk, OnErr, MatchOption};
+ghost use Rattle.std.specs.Prelude.{◌≡◌, ◌≤◌, ℕ, IfOk, OnErr, MatchOption};
 ghost use Rattle.array_journal.specs.declared.decision.Decision.TheVariants.{Refuses};
 ghost use Rattle.array_journal.specs.Commands.{open_count};
-ghost use Rattle.array_journal.specs.Decision.{decision, opens_conflict};
-ghost use Rattle.array_journal.specs.Entries.{some_at};
+ghost use Rattle.array_journal.specs.Decision.{decision};
+ghost use Rattle.array_journal.specs.May.{IsTask};
 ghost use Rattle.array_book.specs.Asks.{IsWant, decided};
 ghost use Rattle.array_book.specs.BookAnswers.{HasBegun, HasToWait};
-ghost use Rattle.array_book.specs.Begins.{IsVerdict, MayBegin, IsToOpen, wait_of};
-ghost use Rattle.array_book.specs.Waits.{IsFree, WaitsFor};
+ghost use Rattle.array_book.specs.Begins.{IsVerdict, MayBegin, IsToOpen, asked_task, wait_of};
 
 use crate::answers::Begun;
 use crate::asks::{Aim, Ask};
 use crate::decision::decide;
 use crate::ledger::Book;
-use crate::questions::Question;
-use crate::room::holder_of;
-use array_journal::{Decision, Event, Kind, Task, Why};
+use array_journal::{Decision, Event, Kind, Why};
 use blocks_core::{Bytes, Memory};
 
 /// What becomes of a piece.
@@ -57,39 +54,10 @@ impl Book {
         decide(aim.want, &facts)
     }
 
-    /// The open command that a command of a task would have to wait for: the least that it conflicts with, or the least
-    /// that holds blocks where it lacks room.
-    fn least_in_way(&self, task: &Task) -> Option<u32>
-        requires { task.now.count ≤ self.now.setting.buffer }
-        ensures { MatchOption result (IsFree self.now.setting self.now.past task.now) (λ by. WaitsFor self.now.setting self.now.past task.now by) }
-    {
-        match self.records.first_in_way(task) {
-            Some(by) => Some(by),
-            None => self.least_filling(task),
-        }
-    }
-
-    /// Where a task conflicts with none and lacks room, the least open command that holds blocks there.
-    fn least_filling(&self, task: &Task) -> Option<u32>
-        requires small { task.now.count ≤ self.now.setting.buffer }
-        requires alone { some_at 0 (opens_conflict self.now.past task.now) self.now.past ≡ false }
-        ensures { MatchOption result (IsFree self.now.setting self.now.past task.now) (λ by. WaitsFor self.now.setting self.now.past task.now by) }
-    {
-        if self.records.has_room(&self.setting, task) {
-            return None;
-        }
-        match holder_of(&self.setting, task) {
-            Some(target) => {
-                self.records
-                    .first_with(&self.setting, Question::Holds { target })
-            }
-            None => None,
-        }
-    }
-
     /// What becomes of a piece at some rows that may be opened as a command of a kind.
     fn verdict_of(&self, ask: &Ask, kind: Kind, aim: Aim) -> Verdict
-        requires { aim.count ≤ self.now.setting.buffer }
+        requires small { aim.count ≤ self.now.setting.buffer }
+        requires sound { IsTask self.now.setting (asked_task self.now ask.now kind aim) }
         ensures { MayBegin self.now ask.now kind aim result }
     {
         // What stands in the way doesn't hang on the bytes, so they need not be copied to know it.
@@ -154,11 +122,7 @@ impl Book {
             return Err(Memory);
         };
         let task = ask.task(self.alloc, &self.setting.geometry, kind, aim)?;
-        let event = Event::Open {
-            command,
-            task: task.copy(self.alloc)?,
-        };
-        let at = self.put(event, stamp)?;
+        let at = self.put_opening(command, &task, stamp)?;
         Ok(Begun::Opened { at, command, task })
     }
 

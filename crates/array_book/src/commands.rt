@@ -3,7 +3,7 @@
 ghost use Rattle.std.specs.Prelude.{◌≡◌, List, OnOk, OnErr, [], ◌∷◌, length, reverse, slice_get, option_map};
 ghost use Rattle.std.specs.Option.{option_copied};
 ghost use Rattle.array_journal.specs.declared.entry.Entry.{Entry};
-ghost use Rattle.array_journal.specs.Commands.{is_open, open_count, task_of};
+ghost use Rattle.array_journal.specs.Commands.{is_open, ends_command, open_count, task_of};
 ghost use Rattle.array_journal.specs.Entries.{some_at};
 ghost use Rattle.array_journal.specs.Lives.{closes_done};
 ghost use Rattle.array_book.specs.CommandSteps.{Opens, Ends};
@@ -12,6 +12,7 @@ ghost use Rattle.array_book.specs.KnownCommands.{KeepsCommands};
 ghost use Rattle.array_book.specs.Openings.{opened_task};
 ghost use Rattle.array_book.specs.OpenCommands.{open_commands, open_tasks};
 
+mod by_number;
 mod endings;
 mod open_commands;
 mod openings;
@@ -64,6 +65,7 @@ impl Commands {
     {
         let ended = self.endings.has_ended(command);
         self.open_commands.reserve()?;
+        self.endings.expect(command)?;
         self.openings.add(command, place)?;
         self.open_commands
             .add(OpenCommand { command, place }, ended);
@@ -95,6 +97,13 @@ impl Commands {
         let opened = self.openings.place_of(command).is_some();
         let ended = self.endings.has_ended(command);
         opened && !ended
+    }
+
+    /// Whether a command ended.
+    pub fn has_ended(&self, command: u32) -> bool
+        ensures { (past : List Entry) → KeepsCommands past self.now → result ≡ some_at 0 (ends_command command) past }
+    {
+        self.endings.has_ended(command)
     }
 
     /// Whether a command is closed as done.

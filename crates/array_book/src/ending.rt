@@ -32,7 +32,7 @@ impl Book {
             cause,
             bytes,
         };
-        self.put(event, stamp)
+        self.put_end(command, event, stamp)
     }
 
     /// Ends an open update whose delta was lost, and lists its stripe: the diff, what discarded its delta, and the
@@ -56,6 +56,6 @@ impl Book {
             loss,
             shut,
         };
-        self.put(event, stamp)
+        self.put_end(command, event, stamp)
     }
 }

@@ -1,23 +1,26 @@
 //! The book itself: what it is set to, and its entries.
 
-ghost use Rattle.std.specs.Prelude.{◌≡◌, ◌+◌, [], OnOk, OnErr, IfOk, MatchOption, max, reverse};
+ghost use Rattle.std.specs.Prelude.{◌≡◌, [], IfOk, reverse};
 ghost use Rattle.array_journal.specs.Run.{IsSetting};
-ghost use Rattle.array_book.specs.Ledgers.{newest_stamp, next_name, with_event, IsNumbered, AreInOrder, AreNumbered};
+ghost use Rattle.array_book.specs.Ledgers.{AreInOrder, AreNumbered, AreSound};
 
+use crate::open_index::OpenIndex;
 use crate::records::Records;
-use array_journal::{At, Entries, Entry, Event, Setting};
+use array_journal::{Entries, Setting};
 use blocks_core::Memory;
 use std::alloc::Global;
 use std::marker::Model;
 use stripe_layout::{Geometry, Mode};
 
 /// The book of an array: the one place that opens and ends commands, notes losses and swaps disks. It decides by its
-/// entries alone, whose state it keeps at hand; so no call goes through them.
+/// entries alone, whose state it keeps at hand, with indexes of the open commands; so no call goes through the entries,
+/// and `begin` and `look` go through the commands that are open on the stripe alone.
 #[derive(Debug, Drop)]
 pub struct Book {
     pub(crate) alloc: Global,
     pub(crate) setting: Setting,
     pub(crate) records: Records,
+    pub(crate) index: OpenIndex,
 }
 
 impl Model for Book {
@@ -29,7 +32,7 @@ impl Model for Book {
 
     ghost view = { λ b. record { setting = b.setting; past = b.records } };
 
-    ghost invariant = { λ b. IsKept b.setting b.records };
+    ghost invariant = { λ b. IsKept b.setting b.records b.index };
 }
 
 impl Book {
@@ -46,16 +49,18 @@ impl Book {
                 mode,
             },
             records: Records::new(alloc),
+            index: OpenIndex::new(alloc),
         })
     }
 
     /// The entries, the oldest first. They are the book's own, under stamps that rise, and commands are numbered
-    /// as they were opened.
+    /// as they were opened, each with a sound task.
     pub fn entries(&self) -> &Entries
         ensures entries { result.now.list ≡ reverse self.now.past }
         ensures setting { IsSetting self.now.setting }
         ensures in_order { AreInOrder self.now.past }
         ensures numbered { AreNumbered self.now.past }
+        ensures sound { AreSound self.now.setting self.now.past }
     {
         self.records.entries()
     }
@@ -64,32 +69,8 @@ impl Book {
     pub fn into_entries(self) -> Entries
         ensures { result.list ≡ reverse self.past }
     {
-        let Book { records, .. } = self;
+        let Book { records, index, .. } = self;
+        drop(index);
         records.into_entries()
-    }
-
-    /// The stamp of the next entry, if a stamp can have it.
-    fn next_stamp(&self, stamp: u64) -> Option<u64>
-        ensures { MatchOption result (Unit {0}) (λ next. next ≡ max (newest_stamp self.now.past) stamp + 1) }
-    {
-        self.records.newest_stamp().max(stamp).checked_add(1)
-    }
-
-    /// Makes one entry. After want of memory nothing has changed.
-    pub(crate) fn put(&mut self, event: Event, stamp: u64) -> Result<At, Memory>
-        requires numbered { IsNumbered event self.old.past }
-        ensures name { IfOk result (λ at. at ≡ next_name self.old stamp) }
-        ensures made { OnOk result (self.new ≡ with_event self.old stamp event) }
-        ensures err { OnErr result (self.new ≡ self.old) }
-        ensures setting { self.new.setting ≡ self.old.setting }
-    {
-        let stamp = self.next_stamp(stamp).ok_or(Memory)?;
-        let entry = Entry {
-            stamp,
-            lock: 0,
-            event,
-        };
-        self.records.append(self.alloc, entry)?;
-        Ok(At { stamp, lock: 0 })
     }
 }

@@ -4,7 +4,9 @@
 //! alike.
 #![tactic(auto)]
 
+mod acting;
 mod answers;
+mod appending;
 mod asks;
 mod beginning;
 mod commands;
@@ -13,11 +15,15 @@ mod decision;
 mod dirty;
 mod ending;
 mod facts;
+mod groups;
+mod held_counts;
+mod holders;
+mod in_way;
 pub mod laws;
 mod ledger;
 mod missing;
 mod noted_slots;
-mod questions;
+mod open_index;
 mod records;
 mod room;
 mod slot_calls;

@@ -1,8 +1,9 @@
 //! The book's entries, with the state that they come to.
 
-ghost use Rattle.std.specs.Prelude.{◌≡◌, [], ◌∷◌, OnOk, OnErr, is_some, reverse};
-ghost use Rattle.array_journal.specs.Commands.{is_open, open_count, tasks_conflict};
-ghost use Rattle.array_journal.specs.Decision.{opens_conflict, has_room};
+ghost use Rattle.std.specs.Prelude.{◌≡◌, [], ◌∷◌, None, OnOk, OnErr, reverse, if◌then◌else◌};
+ghost use Rattle.std.specs.Option.{option_copied};
+ghost use Rattle.array_journal.specs.Acts.{is_target};
+ghost use Rattle.array_journal.specs.Commands.{is_open, ends_command, open_count, task_of};
 ghost use Rattle.array_journal.specs.Entries.{some_at};
 ghost use Rattle.array_journal.specs.Lives.{swap_count, is_unfitted};
 ghost use Rattle.array_journal.specs.Run.{IsSetting};
@@ -10,10 +11,8 @@ ghost use Rattle.array_book.specs.BookStates.{KeepsBook};
 ghost use Rattle.array_book.specs.Decisions.{facts_of};
 ghost use Rattle.array_book.specs.Ledgers.{newest_stamp};
 ghost use Rattle.array_book.specs.OpenTasks.{first_open};
-ghost use Rattle.array_book.specs.Questions.{says_yes};
 
 use crate::decision::Facts;
-use crate::questions::Question;
 use crate::state::BookState;
 use array_journal::{Entries, Entry, Setting, Task};
 use blocks_core::Memory;
@@ -121,26 +120,39 @@ impl Records {
         )
     }
 
-    /// The open command that a task conflicts with, of several the one that was opened first.
-    pub fn first_in_way(&self, task: &Task) -> Option<u32>
-        ensures found { is_some result ≡ some_at 0 (opens_conflict self.now task.now) self.now }
-        ensures first { result ≡ first_open (tasks_conflict task.now) self.now }
+    /// Whether a command was opened and not ended.
+    pub fn is_open(&self, command: u32) -> bool
+        ensures { result ≡ is_open command self.now }
     {
-        self.state.first_in_way(self.entries.as_slice(), task)
+        self.state.is_open(command)
     }
 
-    /// Of the open commands whose answer is yes, the one that was opened first.
-    pub fn first_with(&self, setting: &Setting, question: Question) -> Option<u32>
-        ensures { result ≡ first_open (says_yes setting.now question) self.now }
+    /// Whether a command ended.
+    pub fn has_ended(&self, command: u32) -> bool
+        ensures { result ≡ some_at 0 (ends_command command) self.now }
+    {
+        self.state.has_ended(command)
+    }
+
+    /// The task of a command, where it is asked for.
+    pub fn task_if(&self, command: u32, asked: bool) -> Option<&Task>
+        ensures { option_copied result ≡ (if asked then task_of command self.now else None) }
+    {
+        if asked { self.task_of(command) } else { None }
+    }
+
+    /// The task of a command, that of its opening.
+    pub fn task_of(&self, command: u32) -> Option<&Task>
+        ensures { option_copied result ≡ task_of command self.now }
+    {
+        self.state.task_of(self.entries.as_slice(), command)
+    }
+
+    /// Of the open commands that act at a target, the one that was opened first.
+    pub fn first_acting(&self, setting: &Setting, target: usize) -> Option<u32>
+        ensures { result ≡ first_open (λ task. is_target setting.now task target) self.now }
     {
         self.state
-            .first_with(setting, self.entries.as_slice(), question)
-    }
-
-    /// Whether the buffer has room for what a command of a task will hold.
-    pub fn has_room(&self, setting: &Setting, task: &Task) -> bool
-        ensures { result ≡ has_room setting.now task.now self.now }
-    {
-        self.state.has_room(setting, self.entries.as_slice(), task)
+            .first_acting(setting, self.entries.as_slice(), target)
     }
 }

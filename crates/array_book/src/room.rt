@@ -1,7 +1,7 @@
 //! The room that commands need in the buffers of targets. A command that holds blocks there waits for
 //! those that do already, because its own act would be refused for want of room later on.
 
-ghost use Rattle.std.specs.Prelude.{◌≡◌, ◌<◌, ◌^◌, reverse, slice_get, if◌then◌else◌};
+ghost use Rattle.std.specs.Prelude.{◌≡◌, ◌<◌, ◌+◌, ◌^◌, nat_le, reverse, slice_get, if◌then◌else◌};
 ghost use Rattle.array_journal.specs.Decision.{holder_of, holds_at, held_count, has_room};
 ghost use Rattle.array_book.specs.BookStates.{KeepsBook};
 ghost use Rattle.array_book.specs.OpenCommands.{open_tasks};
@@ -44,6 +44,14 @@ fn held_of(setting: &Setting, target: usize, task: &Task) -> u128
     }
 }
 
+/// Whether what a command of a task will hold fits beside so many blocks.
+pub(crate) fn does_fit(setting: &Setting, held: u128, task: &Task) -> bool
+    requires { held < 2 ^ 96 }
+    ensures { result ≡ nat_le (held + task.now.count) setting.now.buffer }
+{
+    held + u128::from(task.count) <= u128::from(setting.buffer)
+}
+
 impl BookState {
     /// The blocks that the open command at a place holds at a target.
     fn held_by(&self, setting: &Setting, entries: &[Entry], target: usize, place: usize) -> u128
@@ -77,10 +85,7 @@ impl BookState {
         ensures { result ≡ has_room setting.now task.now (reverse entries.now) }
     {
         match holder_of(setting, task) {
-            Some(target) => {
-                let held = self.held_count(setting, entries, target);
-                held + u128::from(task.count) <= u128::from(setting.buffer)
-            }
+            Some(target) => does_fit(setting, self.held_count(setting, entries, target), task),
             None => true,
         }
     }

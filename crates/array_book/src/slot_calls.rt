@@ -9,7 +9,6 @@ ghost use Rattle.array_book.specs.Waits.{SwapWaitsFor};
 
 use crate::answers::{Noted, Swapped};
 use crate::ledger::Book;
-use crate::questions::Question;
 use array_journal::{At, Event, Why};
 use blocks_core::Memory;
 
@@ -40,8 +39,7 @@ impl Book {
         ensures { MatchOption result (some_at 0 (opens_at self.now.setting self.now.past slot) self.now.past ≡ false) (λ by. SwapWaitsFor self.now.setting self.now.past slot by) }
     {
         let target = usize::from(slot);
-        self.records
-            .first_with(&self.setting, Question::Acts { target })
+        self.records.first_acting(&self.setting, target)
     }
 
     /// The command that `swap` would wait for.

@@ -3,7 +3,7 @@
 ghost use Rattle.std.specs.Prelude.{◌≡◌, List, [], length, reverse, slice_get, option_map};
 ghost use Rattle.std.specs.Option.{option_copied};
 ghost use Rattle.array_journal.specs.declared.entry.Entry.{Entry};
-ghost use Rattle.array_journal.specs.Commands.{is_open, open_count, task_of};
+ghost use Rattle.array_journal.specs.Commands.{is_open, ends_command, open_count, task_of};
 ghost use Rattle.array_journal.specs.Entries.{some_at, count_before};
 ghost use Rattle.array_journal.specs.Listed.{is_listed};
 ghost use Rattle.array_journal.specs.Lives.{closes_done, swap_count, is_unfitted, is_swap_of};
@@ -55,6 +55,13 @@ impl BookState {
         ensures { (past : List Entry) → KeepsBook past self.now → result ≡ is_open command past }
     {
         self.commands.is_open(command)
+    }
+
+    /// Whether a command ended.
+    pub(crate) fn has_ended(&self, command: u32) -> bool
+        ensures { (past : List Entry) → KeepsBook past self.now → result ≡ some_at 0 (ends_command command) past }
+    {
+        self.commands.has_ended(command)
     }
 
     /// Whether a command is closed as done.

@@ -1,19 +1,44 @@
 //! Which commands ended.
 
-ghost use Rattle.std.specs.Prelude.{◌≡◌, ◌==◌, ◌||◌, ◌&&◌, ℕ, OnOk, OnErr, [], is_some};
-ghost use Rattle.std.specs.BTreeMap.{get};
-ghost use Rattle.std.specs.Option.{unwrap_or};
-ghost use Rattle.std.specs.Ordering.{nat_cmp};
-ghost use Rattle.array_book.specs.Endings.{KeepsEndings, has_ended_in, is_done_in};
+ghost use Rattle.std.specs.Prelude.{◌≡◌, ◌==◌, ◌||◌, ◌&&◌, ℕ, OnOk, OnErr, [], Some, true};
+ghost use Rattle.array_book.specs.Endings.{KeepsEndings, has_ended_by, is_done_by, has_ended_in, is_done_in};
 
+use crate::commands::by_number::ByNumber;
 use blocks_core::Memory;
 use std::alloc::Global;
-use std::collections::BTreeMap;
+
+/// How far a command is.
+#[derive(Clone, Copy, Debug, PartialEq, Eq)]
+pub enum Ending {
+    Awaited,
+    /// It ended, but isn't closed as done.
+    Ended,
+    Done,
+}
 
 /// The commands that ended, each with whether it is closed as done.
 #[derive(Debug, Drop)]
 pub struct Endings {
-    ended: BTreeMap<u32, bool>,
+    ended: ByNumber<Ending>,
+}
+
+fn has_ended(ending: Option<Ending>) -> bool
+    ensures { result ≡ has_ended_by ending }
+{
+    matches!(ending, Some(Ending::Ended | Ending::Done))
+}
+
+fn is_done(ending: Option<Ending>) -> bool
+    ensures { result ≡ is_done_by ending }
+{
+    matches!(ending, Some(Ending::Done))
+}
+
+fn ending_of(done: bool) -> Ending
+    ensures ended { has_ended_by (Some result) ≡ true }
+    ensures done { is_done_by (Some result) ≡ done }
+{
+    if done { Ending::Done } else { Ending::Ended }
 }
 
 impl Endings {
@@ -22,7 +47,7 @@ impl Endings {
         ensures { KeepsEndings [] result }
     {
         Endings {
-            ended: BTreeMap::new(alloc),
+            ended: ByNumber::new(alloc),
         }
     }
 
@@ -34,20 +59,29 @@ impl Endings {
         ensures done_err { OnErr result ((c : ℕ) → is_done_in self.new c ≡ is_done_in self.old c) }
     {
         let before = self.is_done(command);
-        self.ended.insert(command, done || before)?;
-        Ok(())
+        self.ended.put(command, ending_of(done || before))
+    }
+
+    /// A command is opened: whether it ended stays as it is. Commands are opened by rising numbers, while they end in
+    /// any order, so it is here that they get their places in the row.
+    pub fn expect(&mut self, command: u32) -> Result<(), Memory>
+        ensures ended { (c : ℕ) → has_ended_in self.new c ≡ has_ended_in self.old c }
+        ensures done { (c : ℕ) → is_done_in self.new c ≡ is_done_in self.old c }
+    {
+        let ending = self.ended.get(command).unwrap_or(Ending::Awaited);
+        self.ended.put(command, ending)
     }
 
     pub fn has_ended(&self, command: u32) -> bool
         ensures { result ≡ has_ended_in self.now command }
     {
-        self.ended.contains_key(&command)
+        has_ended(self.ended.get(command))
     }
 
     /// Whether a command is closed as done.
     pub fn is_done(&self, command: u32) -> bool
         ensures { result ≡ is_done_in self.now command }
     {
-        self.ended.get(&command).copied().unwrap_or(false)
+        is_done(self.ended.get(command))
     }
 }
