@@ -1,4 +1,5 @@
 mod Keys
+mod RisingLaws
 mod NameLaws
 mod StampLaws
 mod DiskLaws

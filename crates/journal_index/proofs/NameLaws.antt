@@ -1,30 +1,28 @@
 -- The place of a name has the entry of that name.
-use Rattle.std.proofs.Common.{◌≡◌, ℕ, Bool, true, false, cond, List, [], ◌∷◌, ◌++◌, length, reverse, slice_get, Option, Some, refl, ap, sym, ◌∙◌, ⊎_elim, ◌==◌, ◌&&◌, is_eq, append_assoc, append-nil}
-use Rattle.std.proofs.lemmas.Bool.{cases_eq, eq-eqb, ne_eqb}
+use Rattle.std.proofs.Common.{◌≡◌, ℕ, Bool, true, false, cond, List, [], ◌∷◌, ◌++◌, length, reverse, slice_get, Option, Some, refl, ap, sym, ◌∙◌, ◌⊎◌, inl, inr, arith, ◌<◌, ◌==◌, append_assoc, append-nil}
+use Rattle.std.proofs.lemmas.Bool.{cases_eq, eq-eqb, ne_eqb, and_from, and_left, and_right}
 use Rattle.std.proofs.lemmas.List.{reverse-append, length-reverse}
 use Rattle.array_journal.specs.declared.at.At.{At}
 use Rattle.array_journal.specs.declared.entry.Entry.{Entry}
 use Rattle.array_journal.specs.declared.event.Event.{Event}
 use Rattle.array_journal.specs.Entries.{name_of, same_at, entry_at}
-use Rattle.journal_index.specs.Names.{place_of, event_at, event_of}
-use Rattle.journal_index.specs.Keys.{pair_cmp}
-use Rattle.journal_index.proofs.Keys.{tied-pairs}
+use Rattle.journal_index.specs.Names.{place_of, event_at, event_of, key_of}
 
-turned : (a b : ℕ) → (a == b) ≡ (b == a)
-turned a b = ⊎_elim same apart (cases_eq a b)
+-- an entry's name has the number of another exactly where the names are one
+pub is_named : (e : Entry) (name : At) → e.lock < 256 → name.lock < 256 → (key_of (name_of e) == key_of name) ≡ same_at name (name_of e)
+is_named e name h g = by (cases_eq name.stamp e.stamp) (cases_eq name.lock e.lock)
   where
-    same : a ≡ b → (a == b) ≡ (b == a)
-    same e = eq-eqb a b e ∙ sym (eq-eqb b a (sym e))
-
-    apart : (a ≡ b → ⊥) → (a == b) ≡ (b == a)
-    apart h = ne_eqb a b h ∙ sym (ne_eqb b a (λ e. h (sym e)))
-
--- an entry's key is that of a name where the name is the entry's
-pub is_named : (e : Entry) (name : At) → is_eq (pair_cmp (e.stamp, e.lock) (name.stamp, name.lock)) ≡ same_at name (name_of e)
-is_named e name =
-    tied-pairs e.stamp e.lock name.stamp name.lock
-    ∙ ap (λ b. b && (e.lock == name.lock)) (turned e.stamp name.stamp)
-    ∙ ap (λ b. (name.stamp == e.stamp) && b) (turned e.lock name.lock)
+    by : ((name.stamp ≡ e.stamp) ⊎ (name.stamp ≡ e.stamp → ⊥)) → ((name.lock ≡ e.lock) ⊎ (name.lock ≡ e.lock → ⊥)) →
+        (key_of (name_of e) == key_of name) ≡ same_at name (name_of e)
+    by (inl s) (inl l) =
+        eq-eqb (key_of (name_of e)) (key_of name) (omega (arith, s, l))
+        ∙ sym (and_from (name.stamp == e.stamp) (name.lock == e.lock) (eq-eqb name.stamp e.stamp s) (eq-eqb name.lock e.lock l))
+    by (inl s) (inr l) =
+        ne_eqb (key_of (name_of e)) (key_of name) (λ q. l (omega (arith, q, s)))
+        ∙ sym (and_right (name.stamp == e.stamp) (name.lock == e.lock) (ne_eqb name.lock e.lock l))
+    by (inr s) l =
+        ne_eqb (key_of (name_of e)) (key_of name) (λ q. s (omega (arith, q, h, g)))
+        ∙ sym (and_left (name.stamp == e.stamp) (name.lock == e.lock) (ne_eqb name.stamp e.stamp s))
 
 -- where two lists meet, the second begins
 at_seam : (xs : List Entry) (e : Entry) (more : List Entry) → slice_get (xs ++ e ∷ more) (length xs) ≡ Some e

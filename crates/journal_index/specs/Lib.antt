@@ -1,4 +1,5 @@
 pub mod Keys
+pub mod Rising
 pub mod Names
 pub mod Stamps
 pub mod Disks

@@ -1,12 +1,11 @@
 -- The places of named entries. A list of entries called past has the newest entry first; places count from the oldest.
-use Rattle.std.specs.Prelude.{◌≡◌, ℕ, List, [], ◌∷◌, Option, Some, None, length, slice_get, if◌then◌else◌}
-use Rattle.std.specs.BTreeMap.{get}
+use Rattle.std.specs.Prelude.{◌≡◌, ◌+◌, ◌*◌, ◌<◌, ℕ, List, [], ◌∷◌, Option, Some, None, length, slice_get, if◌then◌else◌}
 use Rattle.array_journal.specs.declared.at.At.{At}
 use Rattle.array_journal.specs.declared.entry.Entry.{Entry}
 use Rattle.array_journal.specs.declared.event.Event.{Event}
 use Rattle.array_journal.specs.Entries.{name_of, same_at}
 use Rattle.journal_index.specs.declared.names.NameIndex.{NameIndex}
-use Rattle.journal_index.specs.Keys.{pair_cmp}
+use Rattle.journal_index.specs.Rising.{AreRising, place_in}
 
 -- the place of the newest entry of a name
 abbrev pub place_of : At → List Entry → Option ℕ
@@ -23,6 +22,11 @@ abbrev pub event_at : Option ℕ → List Entry → Option Event
 event_at None entries = None
 event_at (Some place) entries = event_of (slice_get entries place)
 
+-- a name as one number, in the order of a journal, as a lock is below 256
+abbrev pub key_of : At → ℕ
+key_of name = name.stamp * 256 + name.lock
+
 -- each name has its place
-abbrev pub KeepsNames : List Entry → NameIndex → Type 0
-KeepsNames past names = (name : At) → get pair_cmp names.places (name.stamp, name.lock) ≡ place_of name past
+pub record KeepsNames (past : List Entry) (names : NameIndex) : Type 0 where
+  pub rising : AreRising names.places
+  pub places : (name : At) → name.lock < 256 → place_in names.places (key_of name) ≡ place_of name past

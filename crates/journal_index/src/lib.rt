@@ -10,6 +10,7 @@ mod disks;
 mod index;
 mod names;
 mod past;
+mod rising;
 mod stamps;
 
 pub use acts_done::ActsDone;

@@ -1,21 +1,30 @@
 //! Where the entry of a name stands.
 
-ghost use Rattle.std.specs.Prelude.{◌≡◌, ◌∷◌, [], List, length, reverse, OnOk};
+ghost use Rattle.std.specs.Prelude.{◌≡◌, ◌<◌, ◌^◌, ◌∷◌, [], List, length, reverse, OnOk};
 ghost use Rattle.std.specs.Option.{option_copied};
 ghost use Rattle.array_journal.specs.declared.entry.Entry.{Entry};
 ghost use Rattle.array_journal.specs.Entries.{entry_at};
-ghost use Rattle.journal_index.specs.Names.{KeepsNames, place_of, event_at};
+ghost use Rattle.journal_index.specs.Names.{KeepsNames, place_of, event_at, key_of};
 
+use crate::rising::RisingPlaces;
 use array_journal::{At, Entry, Event};
 use blocks_core::Memory;
 use std::alloc::Global;
-use std::collections::BTreeMap;
 
 /// The place of the newest entry of each name. A name is a stamp and a lock, and places count from the
-/// oldest entry.
+/// oldest entry. In a printed journal names rise, so that most are put behind the others.
 #[derive(Debug, Drop)]
 pub struct NameIndex {
-    places: BTreeMap<(u64, u8), usize>,
+    places: RisingPlaces,
+}
+
+/// A name as one number, in the order of a journal.
+fn key_of(name: At) -> u128
+    ensures key { result ≡ key_of name }
+    ensures lock { name.lock < 2 ^ 8 }
+    ensures small { result < 2 ^ 127 }
+{
+    u128::from(name.stamp) * 256 + u128::from(name.lock)
 }
 
 /// What the entry at a place says, if there is one.
@@ -37,7 +46,7 @@ impl NameIndex {
         ensures { KeepsNames [] result }
     {
         NameIndex {
-            places: BTreeMap::new(alloc),
+            places: RisingPlaces::new(alloc),
         }
     }
 
@@ -45,7 +54,11 @@ impl NameIndex {
     pub fn add(&mut self, place: usize, entry: &Entry) -> Result<(), Memory>
         ensures { OnOk result ((past : List Entry) → length past ≡ place → KeepsNames past self.old → KeepsNames (entry.now ∷ past) self.new) }
     {
-        self.places.insert((entry.stamp, entry.lock), place)?;
+        let name = At {
+            stamp: entry.stamp,
+            lock: entry.lock,
+        };
+        self.places.put(key_of(name), place)?;
         Ok(())
     }
 
@@ -53,7 +66,7 @@ impl NameIndex {
     pub fn place_of(&self, name: At) -> Option<usize>
         ensures { (past : List Entry) → KeepsNames past self.now → result ≡ place_of name past }
     {
-        self.places.get(&(name.stamp, name.lock)).copied()
+        self.places.get(key_of(name))
     }
 
     /// What the entry of a name says, among the entries that these names are of, the oldest first.
