@@ -1,0 +1,28 @@
+//! What is told of a line.
+
+ghost use Rattle.std.specs.Prelude.{◌≡◌, ◌++◌, ℕ, List, Some, OnOk};
+ghost use Rattle.bench_runs.specs.Answers.{answer_text, done_text};
+
+use answer_text::{check_of, push_check, push_good};
+use blocks_core::{Bytes, Memory};
+use xor_target::Answer;
+
+/// What a target answered.
+pub fn push_answer(text: &mut Bytes, answer: &Answer) -> Result<(), Memory>
+    ensures { OnOk result ((told : List ℕ) × ((answer_text answer.now ≡ Some told) × (text.new ≡ text.old ++ told))) }
+{
+    match answer {
+        Answer::Good { bytes, .. } => push_good(text, bytes.as_slice()),
+        Answer::Check { sense, .. } => push_check(text, &check_of(sense)),
+        Answer::Gone { .. } => text.push_slice(b"gone"),
+        // No line shuts an owner and no command asks a peer, so of these three only want of memory comes.
+        Answer::Shut { .. } | Answer::Peer { .. } | Answer::Memory => Err(Memory),
+    }
+}
+
+/// What befell a target.
+pub fn push_done(text: &mut Bytes) -> Result<(), Memory>
+    ensures { OnOk result (text.new ≡ text.old ++ done_text) }
+{
+    text.push_slice(b"done")
+}
