@@ -21,3 +21,4 @@ pub mod OnePieces
 pub mod Answered
 pub mod AskedRuns
 pub mod CleanRuns
+pub mod Benches

@@ -8,17 +8,19 @@ use Rattle.std.proofs.lemmas.Slice.Eq.{bytes_eq-Decides}
 use Rattle.text_fields.specs.Spelling.{hex}
 use Rattle.xor_cli.specs.declared.decoding.values.Format.{Format}
 use Rattle.xor_cli.specs.declared.decoding.values.Format.TheVariants as formats
+use Rattle.xor_cli.specs.declared.words.RunCommand.{RunCommand}
+use Rattle.xor_cli.specs.declared.words.RunCommand.TheVariants.{Step, Target}
 use Rattle.xor_cli.specs.declared.words.ToolCommand.{ToolCommand}
-use Rattle.xor_cli.specs.declared.words.ToolCommand.TheVariants.{Step, Decode}
-use Rattle.xor_cli.specs.Words.{format_words, IsFormat, IsData, SpellsToolCommand, SpellsNoToolCommand, IsStep, IsCommand}
-use Rattle.xor_cli.specs.WordReading.{◌>>=◌, flag_of, number_of, hex_of, params_at, named, format_at, last_at, decode_at, step_at, command_at}
+use Rattle.xor_cli.specs.declared.words.ToolCommand.TheVariants.{Run, Decode}
+use Rattle.xor_cli.specs.Words.{format_words, IsFormat, IsData, SpellsToolCommand, SpellsNoToolCommand, AskRun, AskReading, IsCommand}
+use Rattle.xor_cli.specs.WordReading.{◌>>=◌, flag_of, number_of, hex_of, params_at, named, format_at, last_at, decode_at, step_at, target_at, command_at}
 use Rattle.xor_cli.proofs.Digits.{hex-takes, hex-again, number-takes, number-again}
 
 bind-some : {A B : Type 0} (o : Option A) (f : A → Option B) (y : B) → (o >>= f) ≡ Some y → (x : A) × ((o ≡ Some x) × (f x ≡ Some y))
 bind-some (Some x) f y e = (x, (refl, e))
 bind-some None f y e = absurd cc
 
-chosen : {A : Type 0} (b : Bool) (x y z : A) → cond b x y ≡ z → ((b ≡ true) × (x ≡ z)) ⊎ ((b ≡ false) × (y ≡ z))
+pub chosen : {A : Type 0} (b : Bool) (x y z : A) → cond b x y ≡ z → ((b ≡ true) × (x ≡ z)) ⊎ ((b ≡ false) × (y ≡ z))
 chosen true x y z e = inl (refl, e)
 chosen false x y z e = inr (refl, e)
 
@@ -50,8 +52,9 @@ again-decode format bytes f h = rw (again-format format bytes f h) (again-last f
 
 pub command-again : (words : List (List ℕ)) (command : ToolCommand) → SpellsToolCommand words command → command_at words ≡ Some command
 unfolding command_at
-command-again words (Step false) e = rw e refl
-command-again words (Step true) e = rw e refl
+command-again words (Run (Step false)) e = rw e refl
+command-again words (Run (Step true)) e = rw e refl
+command-again words (Run Target) e = rw e refl
 command-again words (Decode format bytes) h = rw (h.0) (again-decode format bytes h.1 h.2)
 
 -- ---- what is read is spelt
@@ -129,23 +132,30 @@ decode-takes words command e =
     subst (SpellsToolCommand (codes "decode" ∷ words)) l.1.0 (whole, n.1, l.1.2)
 
 step-takes : (words : List (List ℕ)) (command : ToolCommand) → step_at words ≡ Some command → SpellsToolCommand (codes "step" ∷ words) command
-step-takes [] command e = subst (SpellsToolCommand (codes "step" ∷ [])) (same_Some (Step false) command e) refl
+step-takes [] command e = subst (SpellsToolCommand (codes "step" ∷ [])) (same_Some (Run (Step false)) command e) refl
 step-takes (word ∷ []) command e = elim (chosen (bytes_eq word (codes "--trace")) _ _ (Some command) e) [
   | inl traced ↦
       let P : List ℕ → Type 0 = λ t. SpellsToolCommand (codes "step" ∷ t ∷ []) command in
-      subst P (sym (same-text word (codes "--trace") traced.0)) (subst (SpellsToolCommand (codes "step" ∷ codes "--trace" ∷ [])) (same_Some (Step true) command traced.1) refl)
+      subst P (sym (same-text word (codes "--trace") traced.0)) (subst (SpellsToolCommand (codes "step" ∷ codes "--trace" ∷ [])) (same_Some (Run (Step true)) command traced.1) refl)
   | inr none ↦ absurd (let no : None ≡ Some command = none.1 in cc no)
 ]
 step-takes (word ∷ (other ∷ rest)) command e = absurd cc
+
+target-takes : (words : List (List ℕ)) (command : ToolCommand) → target_at words ≡ Some command → SpellsToolCommand (codes "target" ∷ words) command
+target-takes [] command e = subst (SpellsToolCommand (codes "target" ∷ [])) (same_Some (Run Target) command e) refl
+target-takes (word ∷ rest) command e = absurd cc
 
 pub command-takes : (words : List (List ℕ)) (command : ToolCommand) → command_at words ≡ Some command → SpellsToolCommand words command
 unfolding command_at
 command-takes [] command e = absurd cc
 command-takes (verb ∷ rest) command e = elim (chosen (bytes_eq verb (codes "step")) _ _ (Some command) e) [
   | inl step ↦ let P : List ℕ → Type 0 = λ t. SpellsToolCommand (t ∷ rest) command in subst P (sym (same-text verb (codes "step") step.0)) (step-takes rest command step.1)
-  | inr e ↦ elim (chosen (bytes_eq verb (codes "decode")) _ _ (Some command) e.1) [
-    | inl decode ↦ let P : List ℕ → Type 0 = λ t. SpellsToolCommand (t ∷ rest) command in subst P (sym (same-text verb (codes "decode") decode.0)) (decode-takes rest command decode.1)
-    | inr e ↦ absurd (let no : None ≡ Some command = e.1 in cc no)
+  | inr e ↦ elim (chosen (bytes_eq verb (codes "target")) _ _ (Some command) e.1) [
+    | inl target ↦ let P : List ℕ → Type 0 = λ t. SpellsToolCommand (t ∷ rest) command in subst P (sym (same-text verb (codes "target") target.0)) (target-takes rest command target.1)
+    | inr e ↦ elim (chosen (bytes_eq verb (codes "decode")) _ _ (Some command) e.1) [
+      | inl decode ↦ let P : List ℕ → Type 0 = λ t. SpellsToolCommand (t ∷ rest) command in subst P (sym (same-text verb (codes "decode") decode.0)) (decode-takes rest command decode.1)
+      | inr e ↦ absurd (let no : None ≡ Some command = e.1 in cc no)
+    ]
   ]
 ]
 
@@ -155,9 +165,13 @@ command-takes (verb ∷ rest) command e = elim (chosen (bytes_eq verb (codes "st
 pub one-command : (words : List (List ℕ)) (a b : ToolCommand) → SpellsToolCommand words a → SpellsToolCommand words b → a ≡ b
 one-command words a b sa sb = same_Some a b (sym (command-again words a sa) ∙ command-again words b sb)
 
+-- words ask for one run at most
+pub one-run : (words : List (List ℕ)) (a b : RunCommand) → AskRun a words → AskRun b words → a ≡ b
+one-run words a b f g = let e : Run a ≡ Run b = one-command words (Run a) (Run b) f g in cc e
+
 -- words of a run aren't words of a decoding
-pub step-apart : (words : List (List ℕ)) (format : Format) (bytes : List ℕ) → IsStep words → SpellsToolCommand words (Decode format bytes) → ⊥
-step-apart words format bytes (traced, s) d = let e : Step traced ≡ Decode format bytes = one-command words (Step traced) (Decode format bytes) s d in cc e
+pub run-apart : (words : List (List ℕ)) (format : Format) (bytes : List ℕ) → AskReading words → SpellsToolCommand words (Decode format bytes) → ⊥
+run-apart words format bytes (run, s) d = let e : Run run ≡ Decode format bytes = one-command words (Run run) (Decode format bytes) s d in cc e
 
 -- the decoding that words spell is the one that was read
 pub same-decode : (found : Option ToolCommand) (inner : ToolCommand) (f g : Format) (a b : List ℕ) → found ≡ Some inner → inner ≡ Decode g b → found ≡ Some (Decode f a) → (f ≡ g) × (a ≡ b)

@@ -1,9 +1,7 @@
 -- What stops a command before it writes.
-use Rattle.std.specs.Prelude.{ℕ, ◌≡◌, Bool, List, [], Option, Some, None, IfSome}
+use Rattle.std.specs.Prelude.{ℕ, ◌≡◌, List, [], Option, Some, None, IfSome}
 use Rattle.std.specs.Io.KnownBytes.{IsAtEnd}
-use Rattle.host_scripts.specs.declared.script.Script.{Script}
 use Rattle.host_scripts.specs.declared.script.Limit.{Limit}
-use Rattle.host_scripts.specs.Limits.{limit_of}
 use Rattle.array_journal.specs.declared.entry.Entry.{Entry}
 use Rattle.outer_io.specs.Outside.{AppendsPrefix}
 use Rattle.program_status.specs.declared.notes.Excess.TheVariants as excesses
@@ -21,14 +19,13 @@ use Rattle.xor_cli.specs.declared.findings.ToolFinding.{ToolFinding}
 use Rattle.xor_cli.specs.declared.findings.ToolFinding.TheVariants.{Refused, Exceeded, Undecodable}
 use Rattle.xor_cli.specs.declared.refusals.Reason.TheVariants as reasons
 use Rattle.xor_cli.specs.declared.refusals.Refusal.{Refusal}
-use Rattle.xor_cli.specs.Words.{SpellsNoToolCommand, IsStep, IsCommand}
+use Rattle.xor_cli.specs.declared.words.RunCommand.{RunCommand}
+use Rattle.xor_cli.specs.Words.{SpellsNoToolCommand, AskRun, AskReading, IsCommand}
 use Rattle.xor_cli.specs.Decoding.{IsFault}
 use Rattle.xor_cli.specs.DecodeTexts.{value_line, fault_line}
 use Rattle.xor_cli.specs.RefusalTexts.{refusal_line}
-use Rattle.xor_cli.specs.Unsupported.{first_later}
-use Rattle.xor_cli.specs.Inputs.{IsRefused, IsExcess}
-use Rattle.xor_cli.specs.Headline.{IsJournalOf}
-use Rattle.xor_cli.specs.Endings.{HasFault, step_text}
+use Rattle.xor_cli.specs.Inputs.{Subject, passed_limit, later_line, IsRefused, IsExcess}
+use Rattle.xor_cli.specs.Endings.{HasFault}
 
 -- ---- what is found, and how that is said
 
@@ -53,23 +50,23 @@ later_refusal number = record { line = number; reason = reasons.Later }
 -- ---- of what this is found
 
 -- of bytes that were to be run
-abbrev pub IsFoundIn : List ℕ → ToolFinding → Type 0
-IsFoundIn bytes (Refused refusal) = IsRefused bytes refusal
-IsFoundIn bytes (Exceeded excess) = IsExcess bytes excess
-IsFoundIn bytes (Undecodable fault) = ⊥
+abbrev pub IsFoundIn : RunCommand → List ℕ → ToolFinding → Type 0
+IsFoundIn run bytes (Refused refusal) = IsRefused run bytes refusal
+IsFoundIn run bytes (Exceeded excess) = IsExcess run bytes excess
+IsFoundIn run bytes (Undecodable fault) = ⊥
 
 -- of an input that was to be run, where its bytes are known
-abbrev pub IsFoundAhead : Option (List ℕ) → ToolFinding → Type 0
-IsFoundAhead input (Refused refusal) = IfSome input (λ bytes. IsRefused bytes refusal)
-IsFoundAhead input (Exceeded excess) = IfSome input (λ bytes. IsExcess bytes excess)
-IsFoundAhead input (Undecodable fault) = ⊥
+abbrev pub IsFoundAhead : RunCommand → Option (List ℕ) → ToolFinding → Type 0
+IsFoundAhead run input (Refused refusal) = IfSome input (λ bytes. IsRefused run bytes refusal)
+IsFoundAhead run input (Exceeded excess) = IfSome input (λ bytes. IsExcess run bytes excess)
+IsFoundAhead run input (Undecodable fault) = ⊥
 
--- of a script
-abbrev pub IsFoundOf : Script → ToolFinding → Type 0
-IsFoundOf script (Refused refusal) =
-    (number : ℕ) × ((limit_of script ≡ None) × (first_later script ≡ Some number) × (refusal ≡ later_refusal number))
-IsFoundOf script (Exceeded excess) = (limit : Limit) × ((limit_of script ≡ Some limit) × (excess ≡ excesses.Counted limit))
-IsFoundOf script (Undecodable fault) = ⊥
+-- of what is spelt
+abbrev pub IsFoundOf : (run : RunCommand) → Subject run → ToolFinding → Type 0
+IsFoundOf run subject (Refused refusal) =
+    (number : ℕ) × ((passed_limit run subject ≡ None) × (later_line run subject ≡ Some number) × (refusal ≡ later_refusal number))
+IsFoundOf run subject (Exceeded excess) = (limit : Limit) × ((passed_limit run subject ≡ Some limit) × (excess ≡ excesses.Counted limit))
+IsFoundOf run subject (Undecodable fault) = ⊥
 
 -- of bytes to decode
 abbrev pub IsFoundAs : Format → List ℕ → ToolFinding → Type 0
@@ -79,23 +76,23 @@ IsFoundAs format bytes (Undecodable fault) = IsFault format bytes fault
 
 -- of what the words ask for, and of the input where its bytes are known
 abbrev pub IsFoundBy : List (List ℕ) → Option (List ℕ) → ToolFinding → Type 0
-IsFoundBy words input (Refused refusal) = IsStep words × IfSome input (λ bytes. IsRefused bytes refusal)
-IsFoundBy words input (Exceeded excess) = IsStep words × IfSome input (λ bytes. IsExcess bytes excess)
+IsFoundBy words input (Refused refusal) = (run : RunCommand) × (AskRun run words × IfSome input (λ bytes. IsRefused run bytes refusal))
+IsFoundBy words input (Exceeded excess) = (run : RunCommand) × (AskRun run words × IfSome input (λ bytes. IsExcess run bytes excess))
 IsFoundBy words input (Undecodable fault) = (format : Format) × ((bytes : List ℕ) × HasFault words format bytes fault)
 
 -- ---- what stops a command
 
--- a run of a script that the source gives
-abbrev pub StopsStep : Option (List ℕ) → ℕ → ℕ → ProgramStop ToolFinding → Type 0
-StopsStep input before after stop = StopsReading finding_line (IsFoundAhead input) before after stop
+-- a run of what the source gives
+abbrev pub StopsSource : RunCommand → Option (List ℕ) → ℕ → ℕ → ProgramStop ToolFinding → Type 0
+StopsSource run input before after stop = StopsReading finding_line (IsFoundAhead run input) before after stop
 
 -- a run of bytes that were read
-abbrev pub StopsRun : List ℕ → ProgramStop ToolFinding → Type 0
-StopsRun bytes stop = StopsBy finding_line (IsFoundIn bytes) stop
+abbrev pub StopsRun : RunCommand → List ℕ → ProgramStop ToolFinding → Type 0
+StopsRun run bytes stop = StopsBy finding_line (IsFoundIn run bytes) stop
 
--- a run of a script
-abbrev pub StopsScript : Script → ProgramStop ToolFinding → Type 0
-StopsScript script stop = StopsBy finding_line (IsFoundOf script) stop
+-- a run of a script or a bench
+abbrev pub StopsSubject : (run : RunCommand) → Subject run → ProgramStop ToolFinding → Type 0
+StopsSubject run subject stop = StopsBy finding_line (IsFoundOf run subject) stop
 
 -- the decoding of bytes
 abbrev pub StopsDecode : Format → List ℕ → ProgramStop ToolFinding → Type 0
@@ -103,7 +100,7 @@ StopsDecode format bytes stop = StopsBy finding_line (IsFoundAs format bytes) st
 
 -- what the words ask for
 abbrev pub StopsFor : List (List ℕ) → Option (List ℕ) → ℕ → ℕ → ProgramStop ToolFinding → Type 0
-StopsFor words input before after stop = StopsProgram (SpellsNoToolCommand words) (IsCommand words) (IsStep words) finding_line (IsFoundBy words input) before after stop
+StopsFor words input before after stop = StopsProgram (SpellsNoToolCommand words) (IsCommand words) (AskReading words) finding_line (IsFoundBy words input) before after stop
 
 -- what is left of the input of a run of which this was found: nothing, unless there was too much of it
 abbrev pub IsLeftAt : ToolFinding → Option (List ℕ) → Type 0
@@ -123,10 +120,6 @@ IsLeftBy Memory left = Unit {0}
 abbrev pub IsNoteCutShort : List (List ℕ) → Option (List ℕ) → ℕ → ℕ → Option (List ℕ) → Option (List ℕ) → Type 0
 IsNoteCutShort words input before after old new =
     (stop : ProgramStop ToolFinding) × (StopsFor words input before after stop × AppendsPrefix old new (note_of stop))
-
--- a journal of a run, and its text
-abbrev pub IsMade : Bool → Script → List Entry → List ℕ → Type 0
-IsMade traced script journal text = IsJournalOf script journal × (text ≡ step_text traced script journal)
 
 -- nothing was run, and the text is the line of the value
 abbrev pub IsMadeOf : DecodedValue → List Entry → List ℕ → Type 0

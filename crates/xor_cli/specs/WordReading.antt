@@ -7,8 +7,9 @@ use Rattle.text_fields.specs.Reading.{filled_of}
 use Rattle.program_status.specs.Words.{single_of}
 use Rattle.xor_cli.specs.declared.decoding.values.Format.{Format}
 use Rattle.xor_cli.specs.declared.decoding.values.Format.TheVariants as formats
+use Rattle.xor_cli.specs.declared.words.RunCommand.TheVariants.{Step, Target}
 use Rattle.xor_cli.specs.declared.words.ToolCommand.{ToolCommand}
-use Rattle.xor_cli.specs.declared.words.ToolCommand.TheVariants.{Step, Decode}
+use Rattle.xor_cli.specs.declared.words.ToolCommand.TheVariants.{Run, Decode}
 
 -- the first word, and those after it
 abbrev pub first_of : List (List ℕ) → Option (List ℕ × List (List ℕ))
@@ -65,14 +66,20 @@ decode_at words = do
 
 -- what stands behind `step`
 abbrev pub step_at : List (List ℕ) → Option ToolCommand
-step_at [] = Some (Step false)
-step_at (word ∷ []) = if bytes_eq word (codes "--trace") then Some (Step true) else None
+step_at [] = Some (Run (Step false))
+step_at (word ∷ []) = if bytes_eq word (codes "--trace") then Some (Run (Step true)) else None
 step_at (word ∷ other ∷ words) = None
+
+-- what stands behind `target`: nothing
+abbrev pub target_at : List (List ℕ) → Option ToolCommand
+target_at [] = Some (Run Target)
+target_at (word ∷ words) = None
 
 -- what stands behind a verb
 abbrev pub told : List ℕ → List (List ℕ) → Option ToolCommand
 told verb words =
     if bytes_eq verb (codes "step") then step_at words
+    else if bytes_eq verb (codes "target") then target_at words
     else if bytes_eq verb (codes "decode") then decode_at words
     else None
 

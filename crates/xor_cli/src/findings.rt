@@ -1,15 +1,18 @@
 //! What a command finds where nothing comes of it.
 
+ghost use Rattle.xor_cli.specs.declared.findings.ToolFinding.TheVariants as findings;
+ghost use Rattle.xor_cli.specs.Statuses.{IsStopOf};
+
 use crate::decoding::{DecodeFault, fault_line};
-use crate::refusals::{Refusal, refusal_line};
+use crate::refusals::{Reason, Refusal, refusal_line};
 use blocks_core::{Bytes, Memory};
-use program_status::{Excess, Verdict, excess_line};
+use program_status::{Excess, ProgramStop, Verdict, excess_line, found};
 use std::alloc::Global;
 
 /// What a command finds its input, or the bytes in its words, to be where nothing comes of them.
 #[derive(Clone, Copy, Debug, PartialEq, Eq)]
 pub enum ToolFinding {
-    /// This line of the script is refused.
+    /// This line of the script or the bench is refused.
     Refused(Refusal),
     /// There is too much of something.
     Exceeded(Excess),
@@ -38,4 +41,11 @@ impl program_status::Finding for ToolFinding {
             ToolFinding::Undecodable(fault) => fault_line(alloc, fault),
         }
     }
+}
+
+/// What the refusal of a line stops a run with.
+pub fn refused(alloc: Global, line: u64, reason: Reason) -> ProgramStop<ToolFinding>
+    ensures { IsStopOf (findings.Refused (record { line = line; reason = reason })) result }
+{
+    found(alloc, ToolFinding::Refused(Refusal { line, reason }))
 }

@@ -1,6 +1,5 @@
 ghost use Rattle.std.specs.Prelude.{ℕ, List, ◌≡◌, ◌≢◌, ◌⊎◌, [], ◌∷◌, ◌≤◌, length, IfSome};
 ghost use Rattle.std.specs.Io.KnownBytes.{Appends, IsAtEnd};
-ghost use Rattle.host_scripts.specs.declared.script.Script.{Script};
 ghost use Rattle.xor_cli.specs.declared.decoding.faults.DecodeFault.{DecodeFault};
 ghost use Rattle.xor_cli.specs.declared.decoding.values.Format.{Format};
 ghost use Rattle.xor_cli.specs.declared.decoding.values.DecodedValue.{DecodedValue};
@@ -11,18 +10,20 @@ ghost use Rattle.program_status.specs.Notes.{excess_line};
 ghost use Rattle.program_status.specs.Statuses.{IsOneOf};
 ghost use Rattle.program_status.specs.Stops.{noted_for};
 ghost use Rattle.program_status.specs.Words.{texts};
+ghost use Rattle.xor_cli.specs.declared.words.RunCommand.{RunCommand};
 ghost use Rattle.xor_cli.specs.declared.words.ToolCommand.TheVariants as commands;
 ghost use Rattle.xor_cli.specs.Decoding.{IsValue, IsFault};
 ghost use Rattle.xor_cli.specs.DecodeTexts.{value_line, fault_line};
 ghost use Rattle.xor_cli.specs.RefusalTexts.{refusal_line};
 ghost use Rattle.outer_io.specs.Outside.{HasRisen, input_limit};
-ghost use Rattle.xor_cli.specs.Words.{SpellsToolCommand, SpellsNoToolCommand, IsStep, IsCommand};
-ghost use Rattle.xor_cli.specs.Inputs.{IsAccepted, IsRefused, IsLater, IsExcess};
+ghost use Rattle.xor_cli.specs.Words.{SpellsToolCommand, SpellsNoToolCommand, AskRun, AskReading, IsCommand};
+ghost use Rattle.xor_cli.specs.Inputs.{Subject, IsAccepted, IsRefused, IsLater, IsExcess};
 ghost use Rattle.xor_cli.specs.Endings.{IsDone, IsCutShort, IsRefusalNoted, IsExcessNoted};
 ghost use Rattle.xor_cli.specs.Statuses.{verdict_of, later_refusal, IsNoteCutShort};
 
-use crate::execute::{Made, work};
+use crate::execute::work;
 use crate::findings::ToolFinding;
+use crate::made::Made;
 use array_journal::Journal;
 use outer_io::{Sink, Source};
 use program_status::ProgramStop;
@@ -39,10 +40,11 @@ pub struct Outcome {
 /// did.
 ///
 /// `step` runs the script that the source gives and writes its report; with `--trace` the trace of its
-/// journal follows. `decode cdb HEX`, `decode sense HEX`, `decode page HEX` and `decode params I BYTES HEX`
-/// say in one line what the bytes are: a command descriptor block, sense data, the XOR control mode page,
-/// or a parameter list of a command whose INTDATA bit is I and which takes so many bytes of intermediate
-/// data where it is one. They read nothing.
+/// journal follows. `target` runs the bench that the source gives, writes a line for each of its lines, and
+/// hands out the targets' entries. `decode cdb HEX`, `decode sense HEX`, `decode page HEX` and `decode
+/// params I BYTES HEX` say in one line what the bytes are: a command descriptor block, sense data, the XOR
+/// control mode page, or a parameter list of a command whose INTDATA bit is I and which takes so many bytes
+/// of intermediate data where it is one. They read nothing.
 pub fn tool<S: Source, K: Sink, N: Sink>(
     alloc: Global,
     words: &[String],
@@ -59,33 +61,33 @@ pub fn tool<S: Source, K: Sink, N: Sink>(
         (HasRisen (K.faults out.old) (K.faults out.new)
         × IsCutShort (texts words.now) (S.left source.old) (K.written out.old) (K.written out.new) result.journal
         × (N.written notes.new ≡ N.written notes.old)
-        × (IsStep (texts words.now) → IsAtEnd (S.left source.new)))
+        × (AskReading (texts words.now) → IsAtEnd (S.left source.new)))
         ⊎ (HasRisen (N.faults notes.old) (N.faults notes.new)
         × IsNoteCutShort (texts words.now) (S.left source.old) (S.faults source.old) (S.faults source.new) (N.written notes.old) (N.written notes.new)
         × (K.written out.new ≡ K.written out.old)
         × (result.journal ≡ [])) }
     ensures exceeded { result.status ≡ 7 →
         IsExcessNoted (texts words.now) (S.left source.old) (N.written notes.old) (N.written notes.new) }
-    ensures causes { HasCause (SpellsNoToolCommand (texts words.now)) (IsCommand (texts words.now)) (IsStep (texts words.now))
+    ensures causes { HasCause (SpellsNoToolCommand (texts words.now)) (IsCommand (texts words.now)) (AskReading (texts words.now))
         (record { source = S.faults source.old; out = K.faults out.old; notes = N.faults notes.old })
         (record { source = S.faults source.new; out = K.faults out.new; notes = N.faults notes.new }) result.status }
     ensures no_other { IsOneOf (0 ∷ 2 ∷ 3 ∷ 4 ∷ 5 ∷ 7 ∷ 64 ∷ []) result.status }
 
     // Where a status comes, unless a read fails (3), a write fails (4) or memory runs out (5).
-    ensures runs { IsStep (texts words.now) →
-        IfSome (S.left source.old) (λ input. (script : Script) → IsAccepted input script →
+    ensures runs { (run : RunCommand) → AskRun run (texts words.now) →
+        IfSome (S.left source.old) (λ input. (subject : Subject run) → IsAccepted run input subject →
         IsOneOf (0 ∷ 3 ∷ 4 ∷ 5 ∷ []) result.status) }
-    ensures refuses { IsStep (texts words.now) →
-        IfSome (S.left source.old) (λ input. (refusal : Refusal) → IsRefused input refusal →
+    ensures refuses { (run : RunCommand) → AskRun run (texts words.now) →
+        IfSome (S.left source.old) (λ input. (refusal : Refusal) → IsRefused run input refusal →
         ((result.status ≡ 2) × Appends (N.written notes.old) (N.written notes.new) (refusal_line refusal))
         ⊎ IsOneOf (3 ∷ 4 ∷ 5 ∷ []) result.status) }
     // The same of a line that can't be run yet.
-    ensures later { IsStep (texts words.now) →
-        IfSome (S.left source.old) (λ input. (line : ℕ) → IsLater input line →
+    ensures later { (run : RunCommand) → AskRun run (texts words.now) →
+        IfSome (S.left source.old) (λ input. (line : ℕ) → IsLater run input line →
         ((result.status ≡ 2) × Appends (N.written notes.old) (N.written notes.new) (refusal_line (later_refusal line)))
         ⊎ IsOneOf (3 ∷ 4 ∷ 5 ∷ []) result.status) }
-    ensures limits { IsStep (texts words.now) →
-        IfSome (S.left source.old) (λ input. (excess : Excess) → IsExcess input excess →
+    ensures limits { (run : RunCommand) → AskRun run (texts words.now) →
+        IfSome (S.left source.old) (λ input. (excess : Excess) → IsExcess run input excess →
         ((result.status ≡ 7) × Appends (N.written notes.old) (N.written notes.new) (excess_line excess))
         ⊎ IsOneOf (3 ∷ 4 ∷ 5 ∷ []) result.status) }
     ensures decodes { (format : Format) (bytes : List ℕ) (value : DecodedValue) →
@@ -98,10 +100,10 @@ pub fn tool<S: Source, K: Sink, N: Sink>(
         ⊎ IsOneOf (4 ∷ 5 ∷ []) result.status }
     ensures answers_usage { SpellsNoToolCommand (texts words.now) → IsOneOf (64 ∷ 4 ∷ []) result.status }
 
-    // Where no count of faults rises, only want of memory keeps a script from its run, and a value from its
-    // line.
-    ensures complete { IsStep (texts words.now) →
-        IfSome (S.left source.old) (λ input. (script : Script) → IsAccepted input script →
+    // Where no count of faults rises, only want of memory keeps a script or a bench from its run, and a value
+    // from its line.
+    ensures complete { (run : RunCommand) → AskRun run (texts words.now) →
+        IfSome (S.left source.old) (λ input. (subject : Subject run) → IsAccepted run input subject →
         ¬ HasRisen (S.faults source.old) (S.faults source.new) →
         ¬ HasRisen (K.faults out.old) (K.faults out.new) →
         ¬ HasRisen (N.faults notes.old) (N.faults notes.new) →
@@ -114,9 +116,9 @@ pub fn tool<S: Source, K: Sink, N: Sink>(
 
     // What is read: all that there is, where a run is asked for and the input isn't too long. How much is
     // taken of a longer one isn't said here. Where no run is asked for, nothing is read.
-    ensures read_whole { IsStep (texts words.now) → IsOneOf (0 ∷ 2 ∷ 7 ∷ []) result.status →
+    ensures read_whole { AskReading (texts words.now) → IsOneOf (0 ∷ 2 ∷ 7 ∷ []) result.status →
         IfSome (S.left source.old) (λ input. length input ≤ input_limit → IsAtEnd (S.left source.new)) }
-    ensures unread { ¬ IsStep (texts words.now) →
+    ensures unread { ¬ AskReading (texts words.now) →
         (S.left source.new ≡ S.left source.old) × (S.faults source.new ≡ S.faults source.old) }
 
     // What else is written, and kept.

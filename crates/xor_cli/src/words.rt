@@ -3,7 +3,7 @@ ghost use Rattle.xor_cli.specs.declared.words.ToolCommand.{ToolCommand};
 ghost use Rattle.program_status.specs.Words.{texts};
 ghost use Rattle.text_fields.specs.Reading.{Reads};
 ghost use Rattle.xor_cli.specs.Words.{SpellsToolCommand, SpellsNoToolCommand, IsCommand};
-ghost use Rattle.xor_cli.specs.WordReading.{first_of, flag_of, params_at, format_at, last_at, decode_at, step_at, command_at};
+ghost use Rattle.xor_cli.specs.WordReading.{first_of, flag_of, params_at, format_at, last_at, decode_at, step_at, target_at, command_at};
 
 use crate::decoding::Format;
 use crate::numerals::{hex_of, number_of};
@@ -11,12 +11,21 @@ use blocks_core::{Bytes, Memory};
 use program_status::single_word;
 use std::alloc::Global;
 
-/// What is to be done.
-#[derive(Debug, Drop)]
-pub enum ToolCommand {
+/// A run of what the source gives.
+#[derive(Clone, Copy, Debug, PartialEq, Eq)]
+pub enum RunCommand {
     /// Runs a script on one thread, and writes the trace of its journal behind the report where that is
     /// asked for.
     Step { trace: bool },
+    /// Runs a bench: sends its lines to targets without an array.
+    Target,
+}
+
+/// What is to be done.
+#[derive(Debug, Drop)]
+pub enum ToolCommand {
+    /// Reads the source and runs what it gives.
+    Run(RunCommand),
     /// Says what value these bytes spell.
     Decode { format: Format, bytes: Bytes },
 }
@@ -106,8 +115,20 @@ fn step(words: &[String]) -> Option<ToolCommand>
     ensures { result ≡ step_at (texts words.now) }
 {
     match words {
-        [] => Some(ToolCommand::Step { trace: false }),
-        [word] if word.as_str() == "--trace" => Some(ToolCommand::Step { trace: true }),
+        [] => Some(ToolCommand::Run(RunCommand::Step { trace: false })),
+        [word] if word.as_str() == "--trace" => {
+            Some(ToolCommand::Run(RunCommand::Step { trace: true }))
+        }
+        _ => None,
+    }
+}
+
+/// What stands behind `target`.
+fn target(words: &[String]) -> Option<ToolCommand>
+    ensures { result ≡ target_at (texts words.now) }
+{
+    match words {
+        [] => Some(ToolCommand::Run(RunCommand::Target)),
         _ => None,
     }
 }
@@ -120,6 +141,7 @@ fn read_words(alloc: Global, words: &[String]) -> Result<Option<ToolCommand>, Me
 {
     match first(words) {
         Some((verb, rest)) if verb == "step" => Ok(step(rest)),
+        Some((verb, rest)) if verb == "target" => Ok(target(rest)),
         Some((verb, rest)) if verb == "decode" => decode(alloc, rest),
         _ => Ok(None),
     }

@@ -11,22 +11,22 @@ returns-in-Ok-clause-done g c = made-done _ _ _ _ _ _ _ _ _ _ c.in-Ok.ensures.ma
 pub returns-in-Ok-clause-write_fault : goal.returns-in-Ok-clause-write_fault
 returns-in-Ok-clause-write_fault g c = λ four.
     let cut = made-cut_short _ _ _ _ _ _ _ _ _ _ c.in-Ok.ensures.made c.hand_out.ensures.journal c.hand_out.ensures.status four in
-    inl (cut.0, cut.1, refl, λ step. c.in-Ok.ensures.whole step)
+    inl (cut.0, cut.1, refl, λ asked. c.in-Ok.ensures.whole asked)
 
 pub returns-in-Ok-clause-runs : goal.returns-in-Ok-clause-runs
-returns-in-Ok-clause-runs g c = λ step. made-runs _ _ _ _ _ _ _ c.hand_out.ensures.status
+returns-in-Ok-clause-runs g c = λ run asked. made-runs run _ _ _ _ _ _ _ c.hand_out.ensures.status
 
 pub returns-in-Ok-clause-complete : goal.returns-in-Ok-clause-complete
-returns-in-Ok-clause-complete g c = λ step. made-complete _ _ _ _ _ _ _ _ _ _ _ c.hand_out.ensures.status
+returns-in-Ok-clause-complete g c = λ run asked. made-complete run _ _ _ _ _ _ _ _ _ _ _ c.hand_out.ensures.status
 
 pub returns-in-Ok-clause-refuses : goal.returns-in-Ok-clause-refuses
-returns-in-Ok-clause-refuses g c = λ step. made-refuses _ _ _ _ _ _ _ c.in-Ok.ensures.made step
+returns-in-Ok-clause-refuses g c = λ run asked. made-refuses _ run _ _ _ _ _ _ c.in-Ok.ensures.made asked
 
 pub returns-in-Ok-clause-later : goal.returns-in-Ok-clause-later
-returns-in-Ok-clause-later g c = λ step. later-refuses _ _ _ _ (made-refuses _ _ _ _ _ _ _ c.in-Ok.ensures.made step)
+returns-in-Ok-clause-later g c = λ run asked. later-refuses run _ _ _ _ (made-refuses _ run _ _ _ _ _ _ c.in-Ok.ensures.made asked)
 
 pub returns-in-Ok-clause-limits : goal.returns-in-Ok-clause-limits
-returns-in-Ok-clause-limits g c = λ step. made-limits _ _ _ _ _ _ _ c.in-Ok.ensures.made step
+returns-in-Ok-clause-limits g c = λ run asked. made-limits _ run _ _ _ _ _ _ c.in-Ok.ensures.made asked
 
 pub returns-in-Ok-clause-decodes : goal.returns-in-Ok-clause-decodes
 returns-in-Ok-clause-decodes g c = λ format bytes value spelt is.
@@ -60,8 +60,8 @@ pub returns-in-Err-clause-no_other : goal.returns-in-Err-clause-no_other
 returns-in-Err-clause-no_other g c = stop-no_other _ _ _ _ _ _ c.hand_note.ensures.status
 
 pub returns-in-Err-clause-runs : goal.returns-in-Err-clause-runs
-returns-in-Err-clause-runs g c =
-    stop-runs _ _ _ _ _ _ _ _ _ _ c.in-Err.ensures.stop c.hand_note.ensures.status
+returns-in-Err-clause-runs g c = λ run.
+    stop-runs _ run _ _ _ _ _ _ _ _ _ c.in-Err.ensures.stop c.hand_note.ensures.status
 
 pub returns-in-Err-clause-write_fault : goal.returns-in-Err-clause-write_fault
 returns-in-Err-clause-write_fault g c = λ four.
@@ -73,16 +73,16 @@ returns-in-Err-clause-exceeded g c =
     stop-exceeded _ _ _ _ _ _ _ _ _ _ c.in-Err.ensures.stop c.hand_note.ensures.status
 
 pub returns-in-Err-clause-refuses : goal.returns-in-Err-clause-refuses
-returns-in-Err-clause-refuses g c =
-    stop-refuses _ _ _ _ _ _ _ _ _ _ c.in-Err.ensures.stop c.hand_note.ensures.status
+returns-in-Err-clause-refuses g c = λ run.
+    stop-refuses _ run _ _ _ _ _ _ _ _ _ c.in-Err.ensures.stop c.hand_note.ensures.status
 
 pub returns-in-Err-clause-later : goal.returns-in-Err-clause-later
-returns-in-Err-clause-later g c = λ step.
-    later-refuses _ _ _ _ (stop-refuses _ _ _ _ _ _ _ _ _ _ c.in-Err.ensures.stop c.hand_note.ensures.status step)
+returns-in-Err-clause-later g c = λ run asked.
+    later-refuses run _ _ _ _ (stop-refuses _ run _ _ _ _ _ _ _ _ _ c.in-Err.ensures.stop c.hand_note.ensures.status asked)
 
 pub returns-in-Err-clause-limits : goal.returns-in-Err-clause-limits
-returns-in-Err-clause-limits g c =
-    stop-limits _ _ _ _ _ _ _ _ _ _ c.in-Err.ensures.stop c.hand_note.ensures.status
+returns-in-Err-clause-limits g c = λ run.
+    stop-limits _ run _ _ _ _ _ _ _ _ _ c.in-Err.ensures.stop c.hand_note.ensures.status
 
 pub returns-in-Err-clause-decodes : goal.returns-in-Err-clause-decodes
 returns-in-Err-clause-decodes g c = λ format bytes value spelt is.
@@ -97,7 +97,7 @@ returns-in-Err-clause-answers_usage g c =
     stop-answers_usage _ _ _ _ _ _ _ _ _ _ c.in-Err.ensures.stop c.hand_note.ensures.status
 
 pub returns-in-Err-clause-complete : goal.returns-in-Err-clause-complete
-returns-in-Err-clause-complete g c = stop-complete _ _ _ _ _ _ _ _ _ _ _ c.in-Err.ensures.stop c.hand_note.ensures.status
+returns-in-Err-clause-complete g c = λ run. stop-complete _ run _ _ _ _ _ _ _ _ _ _ c.in-Err.ensures.stop c.hand_note.ensures.status
 
 pub returns-in-Err-clause-decodes_complete : goal.returns-in-Err-clause-decodes_complete
 returns-in-Err-clause-decodes_complete g c = λ format bytes value spelt is written note.
@@ -112,11 +112,11 @@ pub returns-in-Ok-clause-unread : goal.returns-in-Ok-clause-unread
 returns-in-Ok-clause-unread g c = c.work.ensures.unread
 
 pub returns-in-Ok-clause-read_whole : goal.returns-in-Ok-clause-read_whole
-returns-in-Ok-clause-read_whole g c = λ step one. in-limit _ _ (c.in-Ok.ensures.whole step)
+returns-in-Ok-clause-read_whole g c = λ asked one. in-limit _ _ (c.in-Ok.ensures.whole asked)
 
 pub returns-in-Err-clause-read_whole : goal.returns-in-Err-clause-read_whole
-returns-in-Err-clause-read_whole g c = λ step one.
-    stop-read_whole _ _ _ _ _ _ _ _ _ _ _ step c.in-Err.ensures.stop (c.in-Err.ensures.whole step) c.hand_note.ensures.status one
+returns-in-Err-clause-read_whole g c = λ asked one.
+    stop-read_whole _ _ _ _ _ _ _ _ _ _ _ asked c.in-Err.ensures.stop (c.in-Err.ensures.whole asked) c.hand_note.ensures.status one
 
 pub returns-in-Err-clause-unread : goal.returns-in-Err-clause-unread
 returns-in-Err-clause-unread g c = c.work.ensures.unread

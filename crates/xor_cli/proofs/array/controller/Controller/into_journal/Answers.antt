@@ -1,5 +1,4 @@
 use Rattle.std.proofs.Common.{List, sym, subst, ◌≡◌}
-use Rattle.std.proofs.lemmas.Result.{IfOk-weaker}
 use Rattle.array_journal.specs.declared.entry.Entry.{Entry}
 use Rattle.array_journal.specs.OneJournal.{journal_of, AreKept}
 use Rattle.xor_cli.proofs.array.controller.Controller.into_journal.Goals as goal
