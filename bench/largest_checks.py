@@ -15,9 +15,10 @@ import subprocess
 import sys
 import tempfile
 
-from largest_scripts import MEGABYTE, PROGRAM, TOP, Runs, header, run_in_turns, small_writes, small_writes_and_reads
+from largest_scripts import MEGABYTE, PROGRAM, Runs, header, run_in_turns, small_writes, small_writes_and_reads
+from programs import build, path_of
 
-CHECKER = os.path.join(TOP, "crates", "xorcheck", "out", "xorcheck")
+CHECKER = path_of("xorcheck")
 BAR = 2.4
 CALLS = 10_000
 
@@ -104,8 +105,7 @@ def measure(name, what, make, most, folder):
 
 
 def main():
-    for name in ("xorarray", "xorcheck"):
-        subprocess.run([os.path.join(TOP, name)], stdin=subprocess.DEVNULL, stderr=subprocess.DEVNULL, check=False)
+    build("xorarray", "xorcheck")
     with tempfile.TemporaryDirectory() as folder:
         results = [measure(name, "calls", lambda calls: [printed(make(calls))], CALLS, folder) for name, make in SCRIPTS]
         results += [measure(name, what, make, most, folder) for name, what, make, most in PRINTED]

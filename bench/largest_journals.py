@@ -10,13 +10,13 @@ both times. It ends with 1 where a journal isn't judged a run, or a bar is passe
 """
 import os
 import random
-import subprocess
 import sys
 import tempfile
 
-from largest_scripts import MEGABYTE, TOP, Runs, run_in_turns
+from largest_scripts import MEGABYTE, Runs, run_in_turns
+from programs import build, path_of
 
-JUDGE = os.path.join(TOP, "crates", "journal_judge", "out", "journal_judge")
+JUDGE = path_of("journal_judge")
 RATIO_BAR = 2.4
 SECONDS_BAR = 0.3
 CALLS = 10_000
@@ -81,8 +81,7 @@ def measure(mode, update, folder):
 
 
 def main():
-    subprocess.run(["rt", "run"], cwd=os.path.join(TOP, "crates", "journal_judge"), stdin=subprocess.DEVNULL,
-                   stdout=subprocess.DEVNULL, stderr=subprocess.DEVNULL, check=False)
+    build("journal_judge")
     with tempfile.TemporaryDirectory() as folder:
         results = [measure(mode, update, folder) for mode, update in MODES]
     return 0 if all(results) else 1

@@ -19,8 +19,9 @@ import sys
 import tempfile
 import time
 
-TOP = os.path.dirname(os.path.dirname(os.path.abspath(__file__)))
-PROGRAM = os.path.join(TOP, "crates", "xorarray", "out", "xorarray")
+from programs import build, path_of
+
+PROGRAM = path_of("xorarray")
 INPUT_LIMIT = 50_331_648
 MEGABYTE = 1_000_000
 BAR = 2.2
@@ -182,7 +183,7 @@ def measure_parser(folder):
 
 
 def main():
-    subprocess.run([os.path.join(TOP, "xorarray")], stdin=subprocess.DEVNULL, stderr=subprocess.DEVNULL, check=False)
+    build("xorarray")
     good = True
     with tempfile.TemporaryDirectory() as folder:
         for name, make, half, whole in SCRIPTS:
