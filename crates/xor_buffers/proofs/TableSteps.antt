@@ -1,5 +1,5 @@
 -- A table of runs, gone through from its end, and what a cut leaves in it.
-use Rattle.std.proofs.Common.{◌≡◌, ◌==◌, ℕ, suc, ◌+◌, ◌-◌, ◌<◌, true, cond, List, [], ◌∷◌, ◌++◌, length, take, drop, get_or, set, refl, ap, sym, ◌∙◌, subst, arith}
+use Rattle.std.proofs.Common.{◌≡◌, ◌==◌, ℕ, zero, suc, ◌+◌, ◌-◌, ◌<◌, ◌≤◌, true, cond, List, [], ◌∷◌, ◌++◌, length, take, drop, get_or, set, refl, ap, sym, ◌∙◌, subst, arith}
 use Rattle.std.specs.List.{AllByRecursion}
 use Rattle.std.proofs.lemmas.Bool.{eq-eqb, ne_eqb}
 use Rattle.std.proofs.lemmas.List.{take_more, drop_more, set_split, get_or_default}
@@ -23,6 +23,21 @@ pub record IsBack (len done : ℕ) : Type 0 where
 
 pub is_back : (len done : ℕ) → done < len → IsBack len done
 is_back len done h = record { place = omega (arith, h); next = omega (arith, h); before = omega (arith, h) }
+
+-- the blocks in front of a run, and its own, are no more than all
+pub front-inside : (runs : List Run) (i : ℕ) (d : Run) → i < length runs → blocks_in (take i runs) + (get_or runs i d).count ≤ blocks_in runs
+front-inside [] i d h = absurd (omega (arith, h))
+front-inside (x ∷ runs) zero d h = omega arith
+front-inside (x ∷ runs) (suc i) d h = let rest : blocks_in (take i runs) + (get_or runs i d).count ≤ blocks_in runs = front-inside runs i d (omega (arith, h)) in omega (arith, rest)
+
+-- a run found from the front
+pub placed-front : (row count : ℕ) (runs : List Run) (done front : ℕ) (d : Run) → done < length runs → front ≡ blocks_in (take done runs) →
+    run_holds row count (get_or runs done d) ≡ true → IsPlace row count runs done front
+placed-front row count runs done front d h is holds = record {
+  inside = h;
+  behind = is;
+  contains = λ e. ap (run_holds row count) (get_or_default runs done e d h) ∙ holds;
+}
 
 pub behind-more : (runs : List Run) (done at : ℕ) (d : Run) → done < length runs → at ≡ blocks_in (take (length runs - done) runs) →
     at ≡ blocks_in (take (length runs - 1 - done) runs) + (get_or runs (length runs - 1 - done) d).count

@@ -48,14 +48,25 @@ pub(crate) fn overlap_in(runs: &[Run], row: u32, count: u32) -> Option<u32>
     None
 }
 
-/// The newest run that contains these rows.
+/// A run that contains these rows, if there is one. No row is in two runs of a table, so there is no other.
 pub(crate) fn find_in(runs: &[Run], used: u32, row: u32, count: u64) -> Option<RunPlace>
     requires used { used ≡ blocks_in runs.now }
     requires count { count < 2 ^ 63 }
     ensures { MatchOption result (AllByRecursion (λ e. run_holds row count e ≡ false) runs.now) (λ place. IsPlace row count runs.now place.index place.at) }
 {
+    // Deltas are mostly taken in the order in which they were held, or in the opposite one. Looked for from both
+    // ends at once, they are found at the first step either way.
+    let mut front = 0;
     let mut at = used;
     for done in 0..runs.len() {
+        let first = runs[done];
+        if contains(first, row, count) {
+            return Some(RunPlace {
+                index: done,
+                at: front,
+            });
+        }
+        front += first.count;
         let index = runs.len() - 1 - done;
         let run = runs[index];
         at -= run.count;

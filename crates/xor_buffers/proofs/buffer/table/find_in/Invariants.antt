@@ -5,4 +5,4 @@ use Rattle.xor_buffers.proofs.buffer.table.find_in.Given as goal
 
 abbrev pub invariant-loop-done : goal.invariant-loop-done
 invariant-loop-done l =
-    (l.at ≡ blocks_in (take (length l.runs - l.done) l.runs)) × AllByRecursion (λ e. run_holds l.row l.count e ≡ false) (drop (length l.runs - l.done) l.runs)
+    (l.front ≡ blocks_in (take l.done l.runs)) × (l.at ≡ blocks_in (take (length l.runs - l.done) l.runs)) × AllByRecursion (λ e. run_holds l.row l.count e ≡ false) (drop (length l.runs - l.done) l.runs)
