@@ -15,6 +15,7 @@ use Rattle.xor_target.specs.declared.order.Order.{Order}
 use Rattle.xor_target.specs.Admission.{count_of}
 use Rattle.xor_target.specs.Logs.{Logged}
 use Rattle.xor_target.specs.Disks.{DiskState, HasFailed}
+use Rattle.xor_target.specs.declared.waiting.Waiting.{Waiting}
 use Rattle.xor_target.specs.State.{TargetState, state_of}
 use Rattle.xor_target.specs.Effects.{rewritten}
 use Rattle.xor_target.specs.Answers.{IsDone, IsStruck, next_stamp}
@@ -22,27 +23,27 @@ use Rattle.xor_target.specs.Acts.{IsActOf, IsPerformed, IsSteady}
 use Rattle.xor_target.proofs.DiskSteps.{disk_with}
 
 -- what is seen of a log doesn't hang on the memory that it has
-pub same-state : (targets : ℕ) (first page : XorPage) (disk disk' : DiskState) (log log' : Logged) → disk' ≡ disk → log'.past ≡ log.past → log'.number ≡ log.number →
-    state_of targets first page disk' log' ≡ state_of targets first page disk log
-same-state targets first page disk disk' log log' d p n =
-    ap (λ (z : DiskState). state_of targets first page z log') d ∙ ap (λ (x : List Entry). record (state_of targets first page disk log') { past = x }) p
-    ∙ ap (λ (x : ℕ). record (state_of targets first page disk log) { number = x }) n
+pub same-state : (targets : ℕ) (first page : XorPage) (waiting : List Waiting) (disk disk' : DiskState) (log log' : Logged) → disk' ≡ disk → log'.past ≡ log.past → log'.number ≡ log.number →
+    state_of targets first page waiting disk' log' ≡ state_of targets first page waiting disk log
+same-state targets first page waiting disk disk' log log' d p n =
+    ap (λ (z : DiskState). state_of targets first page waiting z log') d ∙ ap (λ (x : List Entry). record (state_of targets first page waiting disk log') { past = x }) p
+    ∙ ap (λ (x : ℕ). record (state_of targets first page waiting disk log) { number = x }) n
 
 -- a disk that changes, and one entry more
-pub grown-state : (targets : ℕ) (first page : XorPage) (disk disk' : DiskState) (log log' : Logged) (contents : Option (List ℕ)) (faults slots : ℕ) (list : List HeldBlocks) (e : Entry) →
+pub grown-state : (targets : ℕ) (first page : XorPage) (waiting : List Waiting) (disk disk' : DiskState) (log log' : Logged) (contents : Option (List ℕ)) (faults slots : ℕ) (list : List HeldBlocks) (e : Entry) →
     disk' ≡ disk_with disk contents faults slots list → log'.past ≡ e ∷ log.past → log'.number ≡ log.number →
-    state_of targets first page disk' log' ≡ record (state_of targets first page disk log) { past = e ∷ log.past; held = list; contents = contents; faults = faults }
-grown-state targets first page disk disk' log log' contents faults slots list e d p n =
+    state_of targets first page waiting disk' log' ≡ record (state_of targets first page waiting disk log) { past = e ∷ log.past; held = list; contents = contents; faults = faults }
+grown-state targets first page waiting disk disk' log log' contents faults slots list e d p n =
     let t : ℕ → List Entry → TargetState =
-    λ x y. record (state_of targets first page disk log) { number = x; past = y; held = list; contents = contents; faults = faults } in
-    ap (λ (z : DiskState). state_of targets first page z log') d ∙ ap (λ y. t log'.number y) p ∙ ap (λ x. t x (e ∷ log.past)) n
+    λ x y. record (state_of targets first page waiting disk log) { number = x; past = y; held = list; contents = contents; faults = faults } in
+    ap (λ (z : DiskState). state_of targets first page waiting z log') d ∙ ap (λ y. t log'.number y) p ∙ ap (λ x. t x (e ∷ log.past)) n
 
 -- a command that was performed is done
-pub performed-done : (targets : ℕ) (first page : XorPage) (disk disk' : DiskState) (log log' : Logged) (order : Order) (command : Command) (act : BlockAct) (bytes : List ℕ) →
+pub performed-done : (targets : ℕ) (first page : XorPage) (waiting : List Waiting) (disk disk' : DiskState) (log log' : Logged) (order : Order) (command : Command) (act : BlockAct) (bytes : List ℕ) →
     IsActOf command act → cdb_bytes act.cdb ≡ order.cdb → act.stamp ≡ next_stamp log.past order.stamp →
     IsPerformed disk log order command act bytes disk' log' →
-    IsDone (state_of targets first page disk log) order command bytes (state_of targets first page disk' log')
-performed-done targets first page disk disk' log log' order command act bytes rows sent stamp done =
+    IsDone (state_of targets first page waiting disk log) order command bytes (state_of targets first page waiting disk' log')
+performed-done targets first page waiting disk disk' log log' order command act bytes rows sent stamp done =
     let d = done.done in
     let effect = done.effect_by d.old in
     let entry : ℕ → Entry = λ s. record { stamp = s; lock = log.number + 1; event = effect.event } in
@@ -58,29 +59,29 @@ performed-done targets first page disk disk' log log' order command act bytes ro
       answers = d.answers;
       counted = d.counted;
       grown =
-          grown-state targets first page disk disk' log log' disk'.contents disk'.faults disk'.buffer.slots effect.held (entry act.stamp) d.kept d.logged d.number
-          ∙ ap (λ s. record (state_of targets first page disk log) { past = entry s ∷ log.past; held = effect.held; contents = disk'.contents; faults = disk'.faults }) stamp
-          ∙ ap (λ c. record (state_of targets first page disk log) { past = entry (next_stamp log.past order.stamp) ∷ log.past; held = effect.held; contents = c; faults = disk'.faults })
+          grown-state targets first page waiting disk disk' log log' disk'.contents disk'.faults disk'.buffer.slots effect.held (entry act.stamp) d.kept d.logged d.number
+          ∙ ap (λ s. record (state_of targets first page waiting disk log) { past = entry s ∷ log.past; held = effect.held; contents = disk'.contents; faults = disk'.faults }) stamp
+          ∙ ap (λ c. record (state_of targets first page waiting disk log) { past = entry (next_stamp log.past order.stamp) ∷ log.past; held = effect.held; contents = c; faults = disk'.faults })
           (d.written ∙ ap (λ r. rewritten disk.block r effect.written disk.contents) rows.row);
     }
 
 -- a failure of the medium takes the disk
-pub failed-struck : (never_fails : Bool) (targets : ℕ) (first page : XorPage) (disk mid disk' : DiskState) (log log' : Logged) (seen stamp : ℕ) (owners : List ℕ) →
+pub failed-struck : (never_fails : Bool) (targets : ℕ) (first page : XorPage) (waiting : List Waiting) (disk mid disk' : DiskState) (log log' : Logged) (seen stamp : ℕ) (owners : List ℕ) →
     IsSteady disk mid → HasFailed never_fails disk.faults mid.faults → disk' ≡ record mid { buffer = record mid.buffer { list = [] } } →
     log'.past ≡ record { stamp = stamp; lock = log.number + 1; event = Gone (life_of log.number log.past) 0 owners } ∷ log.past → log'.number ≡ log.number →
     stamp ≡ next_stamp log.past seen → (never_fails ≡ false → owners ≡ owners_of disk.buffer.list) →
-    IsStruck never_fails (state_of targets first page disk log) seen (state_of targets first page disk' log')
-failed-struck never_fails targets first page disk mid disk' log log' seen stamp owners steady failed wiped past number stamped owned =
+    IsStruck never_fails (state_of targets first page waiting disk log) seen (state_of targets first page waiting disk' log')
+failed-struck never_fails targets first page waiting disk mid disk' log log' seen stamp owners steady failed wiped past number stamped owned =
     let faults = ap (λ (z : DiskState). z.faults) wiped in
     let contents = ap (λ (z : DiskState). z.contents) wiped in
     let gone : ℕ → List ℕ → Entry = λ s o. record { stamp = s; lock = log.number + 1; event = Gone (life_of log.number log.past) 0 o } in
-    let t : Entry → TargetState = λ e. record (state_of targets first page disk log) { past = e ∷ log.past; held = []; contents = disk'.contents; faults = disk'.faults } in
+    let t : Entry → TargetState = λ e. record (state_of targets first page waiting disk log) { past = e ∷ log.past; held = []; contents = disk'.contents; faults = disk'.faults } in
     record {
       failed = subst (λ (n : ℕ). HasFailed never_fails disk.faults n) (sym faults) failed;
       grown =
-          grown-state targets first page disk disk' log log' mid.contents mid.faults mid.buffer.slots [] (gone stamp owners)
+          grown-state targets first page waiting disk disk' log log' mid.contents mid.faults mid.buffer.slots [] (gone stamp owners)
           (wiped ∙ ap (λ (z : DiskState). record z { buffer = record z.buffer { list = [] } }) steady.same) past number
-          ∙ ap (λ c. record (state_of targets first page disk log) { past = gone stamp owners ∷ log.past; held = []; contents = c; faults = mid.faults }) (sym contents)
-          ∙ ap (λ f. record (state_of targets first page disk log) { past = gone stamp owners ∷ log.past; held = []; contents = disk'.contents; faults = f }) (sym faults)
+          ∙ ap (λ c. record (state_of targets first page waiting disk log) { past = gone stamp owners ∷ log.past; held = []; contents = c; faults = mid.faults }) (sym contents)
+          ∙ ap (λ f. record (state_of targets first page waiting disk log) { past = gone stamp owners ∷ log.past; held = []; contents = disk'.contents; faults = f }) (sym faults)
           ∙ ap (λ s. t (gone s owners)) stamped ∙ ap (λ o. t (gone (next_stamp log.past seen) o)) (owned failed.may_fail);
     }

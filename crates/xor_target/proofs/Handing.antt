@@ -1,17 +1,19 @@
 -- A target hands a call on to its disk and log: what these answer for any pages, they answer for its own.
-use Rattle.std.specs.Prelude.{◌≡◌, ℕ, Result, Ok, Err, IfOk, OnErr}
+use Rattle.std.specs.Prelude.{◌≡◌, ℕ, List, Result, Ok, Err, IfOk, OnErr}
 use Rattle.std.proofs.Common.{sym, subst}
 use Rattle.xor_mode_page.specs.declared.pages.XorPage.{XorPage}
+use Rattle.xor_target.specs.declared.waiting.Waiting.{Waiting}
 use Rattle.xor_target.specs.State.{TargetState, IsTarget}
 
-pub ok-at : {A E : Type 0} (r : Result A E) (P : A → ℕ → XorPage → XorPage → Type 0) (n : ℕ) (f p : XorPage) → IfOk r (λ a. (n : ℕ) (f p : XorPage) → P a n f p) →
-    IfOk r (λ a. P a n f p)
-ok-at (Ok a) P n f p h = h n f p
-ok-at (Err e) P n f p h = tt
+pub ok-at : {A E : Type 0} (r : Result A E) (P : A → ℕ → XorPage → XorPage → List Waiting → Type 0) (n : ℕ) (f p : XorPage) (w : List Waiting) →
+    IfOk r (λ a. (n : ℕ) (f p : XorPage) (w : List Waiting) → P a n f p w) → IfOk r (λ a. P a n f p w)
+ok-at (Ok a) P n f p w h = h n f p w
+ok-at (Err e) P n f p w h = tt
 
-pub err-at : {A E : Type 0} (r : Result A E) (Q : ℕ → XorPage → XorPage → Type 0) (n : ℕ) (f p : XorPage) → OnErr r ((n : ℕ) (f p : XorPage) → Q n f p) → OnErr r (Q n f p)
-err-at (Ok a) Q n f p h = tt
-err-at (Err e) Q n f p h = h n f p
+pub err-at : {A E : Type 0} (r : Result A E) (Q : ℕ → XorPage → XorPage → List Waiting → Type 0) (n : ℕ) (f p : XorPage) (w : List Waiting) →
+    OnErr r ((n : ℕ) (f p : XorPage) (w : List Waiting) → Q n f p w) → OnErr r (Q n f p w)
+err-at (Ok a) Q n f p w h = tt
+err-at (Err e) Q n f p w h = h n f p w
 
 -- both are said of what is good
 pub ok-both : {A E : Type 0} (r : Result A E) (P Q : A → Type 0) → IfOk r P → IfOk r Q → IfOk r (λ a. P a × Q a)
@@ -22,3 +24,14 @@ ok-both (Err e) P Q p q = tt
 pub kept-target : {A E : Type 0} (r : Result A E) (old new : TargetState) (P : A → Type 0) → IfOk r P → OnErr r (new ≡ old) → ((a : A) → P a → IsTarget new) → IsTarget old → IsTarget new
 kept-target (Ok a) old new P p same f i = f a p
 kept-target (Err e) old new P p same f i = subst (λ (t : TargetState). IsTarget t) (sym same) i
+
+-- the same of a logical unit, which knows who waits
+pub unit-ok : {A E : Type 0} (r : Result A E) (P : A → ℕ → XorPage → XorPage → Type 0) (n : ℕ) (f p : XorPage) →
+    IfOk r (λ a. (n : ℕ) (f p : XorPage) → P a n f p) → IfOk r (λ a. P a n f p)
+unit-ok (Ok a) P n f p h = h n f p
+unit-ok (Err e) P n f p h = tt
+
+pub unit-err : {A E : Type 0} (r : Result A E) (Q : ℕ → XorPage → XorPage → Type 0) (n : ℕ) (f p : XorPage) →
+    OnErr r ((n : ℕ) (f p : XorPage) → Q n f p) → OnErr r (Q n f p)
+unit-err (Ok a) Q n f p h = tt
+unit-err (Err e) Q n f p h = h n f p

@@ -15,12 +15,14 @@ use Rattle.xor_target.specs.declared.order.Order.{Order}
 use Rattle.xor_target.specs.Admission.{row_of, count_of, data_due}
 use Rattle.xor_target.specs.Table.{is_take}
 use Rattle.xor_target.specs.State.{TargetState, IsRecorded, IsTarget, target_setting, has_failed, is_failure}
-use Rattle.xor_target.specs.Effects.{Effect, effect_of, rewritten, read_effect, write_effect, xdwrite_effect, xdwrite_disabled_effect, xdwriteread_effect, xdwriteread_disabled_effect, xpwrite_effect, xdread_effect}
+use Rattle.xor_target.specs.Effects.{Effect, effect_of, rewritten, read_effect, write_effect, xdwrite_effect, xdwrite_disabled_effect, xdwriteread_effect, xdwriteread_disabled_effect, xdwrite_extended_effect, xdwrite_extended_disabled_effect, xpwrite_effect, xdread_effect}
 use Rattle.xor_target.specs.declared.answer.Answer.{Answer}
+use Rattle.xor_target.specs.declared.waiting.Waiting.{Waiting}
+use Rattle.xor_target.specs.Logs.{drops_next}
 use Rattle.xor_target.specs.Acts.{IsFewWhereGone}
-use Rattle.xor_target.specs.Answers.{IsDone, IsStruck, IsActed, Does, Fails, next_entry, loss_here}
+use Rattle.xor_target.specs.Answers.{IsDone, IsStruck, IsActed, Does, Fails, IsSent, Sends, Drops, Loses, next_entry, loss_here}
 use Rattle.xor_target.proofs.TakenBlocks.{taken-length, taken-some}
-use Rattle.xor_target.proofs.Recorded.{step-recorded, Keeps, written_over, quiet-failures, risen-failures}
+use Rattle.xor_target.proofs.Recorded.{step-recorded, told-map, Keeps, written_over, quiet-failures, risen-failures}
 
 -- what an effect has to be
 pub record Sound (t : TargetState) (row : ℕ) (stamp : ℕ) (contents : Option (List ℕ)) (faults : ℕ) (e : Effect) : Type 0 where
@@ -35,19 +37,19 @@ old-media t told old at len is stood sound r =
     here ∙ ap (λ x. slice x at len) (r.media sound)
 
 -- each command of blocks has a sound effect
-pub sound-effect : (t : TargetState) (order : Order) (cdb : Cdb) (old : List ℕ) (command : Command) (contents : Option (List ℕ)) (faults : ℕ) (effect : Effect) →
+pub sound-effect : (t : TargetState) (order : Order) (cdb : Cdb) (old : List ℕ) (dropped : Bool) (command : Command) (contents : Option (List ℕ)) (faults : ℕ) (effect : Effect) →
     has_failed t.number t.past ≡ false → length order.bytes ≡ data_due t.block command →
     (is_take command ≡ true → holder_of t.block (row_of command) (count_of command * t.block) t.held ≡ None → ⊥) →
     IfSome t.contents (λ told. old ≡ slice told (row_of command * t.block) (count_of command * t.block)) →
-    effect_of t.block order cdb t.held old command ≡ Some effect → Sound t (row_of command) order.stamp contents faults effect
-sound-effect t order cdb old (Read dpo fua lba count) contents faults effect sound due held stood does =
+    effect_of t.block order cdb t.held old dropped command ≡ Some effect → Sound t (row_of command) order.stamp contents faults effect
+sound-effect t order cdb old dropped (Read dpo fua lba count) contents faults effect sound due held stood does =
     let e : read_effect order cdb t.held old lba ≡ effect = cc in
     subst (λ (x : Effect). Sound t lba order.stamp contents faults x) e (record { quiet = refl; keeps = λ told is r. record { held = r.held; media = λ s. r.media sound } })
-sound-effect t order cdb old (Write dpo fua lba count) contents faults effect sound due held stood does =
+sound-effect t order cdb old dropped (Write dpo fua lba count) contents faults effect sound due held stood does =
     let e : write_effect order cdb t.held lba ≡ effect = cc in
     subst (λ (x : Effect). Sound t lba order.stamp contents faults x) e
     (record { quiet = refl; keeps = λ told is r. record { held = r.held; media = λ s. ap (λ m. put m (lba * t.block) order.bytes) (r.media sound) } })
-sound-effect t order cdb old (XdWrite dpo fua false lba count) contents faults effect sound due held stood does =
+sound-effect t order cdb old dropped (XdWrite dpo fua false lba count) contents faults effect sound due held stood does =
     let e : xdwrite_effect order cdb t.held old lba ≡ effect = cc in
     let row : List HeldBlocks → List ℕ → List HeldBlocks = λ h o. h ++ record { owner = order.owner; row = lba; bytes = xor o order.bytes } ∷ [] in
     subst (λ (x : Effect). Sound t lba order.stamp contents faults x) e (record {
@@ -60,7 +62,7 @@ sound-effect t order cdb old (XdWrite dpo fua false lba count) contents faults e
         media = λ s. ap (λ m. put m (lba * t.block) order.bytes) (r.media sound);
       };
     })
-sound-effect t order cdb old (XdWrite dpo fua true lba count) contents faults effect sound due held stood does =
+sound-effect t order cdb old dropped (XdWrite dpo fua true lba count) contents faults effect sound due held stood does =
     let e : xdwrite_disabled_effect order cdb t.held old lba ≡ effect = cc in
     subst (λ (x : Effect). Sound t lba order.stamp contents faults x) e (record {
       quiet = refl;
@@ -69,14 +71,14 @@ sound-effect t order cdb old (XdWrite dpo fua true lba count) contents faults ef
         media = λ s. r.media sound;
       };
     })
-sound-effect t order cdb old (XdWriteRead dpo fua false lba count) contents faults effect sound due held stood does =
+sound-effect t order cdb old dropped (XdWriteRead dpo fua false lba count) contents faults effect sound due held stood does =
     let e : xdwriteread_effect order cdb t.held old lba ≡ effect = cc in
     subst (λ (x : Effect). Sound t lba order.stamp contents faults x) e
     (record { quiet = refl; keeps = λ told is r. record { held = r.held; media = λ s. ap (λ m. put m (lba * t.block) order.bytes) (r.media sound) } })
-sound-effect t order cdb old (XdWriteRead dpo fua true lba count) contents faults effect sound due held stood does =
+sound-effect t order cdb old dropped (XdWriteRead dpo fua true lba count) contents faults effect sound due held stood does =
     let e : xdwriteread_disabled_effect order cdb t.held old lba ≡ effect = cc in
     subst (λ (x : Effect). Sound t lba order.stamp contents faults x) e (record { quiet = refl; keeps = λ told is r. record { held = r.held; media = λ s. r.media sound } })
-sound-effect t order cdb old (XpWrite dpo fua lba count) contents faults effect sound due held stood does =
+sound-effect t order cdb old dropped (XpWrite dpo fua lba count) contents faults effect sound due held stood does =
     let e : xpwrite_effect order cdb t.held old lba ≡ effect = cc in
     subst (λ (x : Effect). Sound t lba order.stamp contents faults x) e (record {
       quiet = refl;
@@ -88,7 +90,7 @@ sound-effect t order cdb old (XpWrite dpo fua lba count) contents faults effect 
             (old-media t told old (lba * t.block) (count * t.block) is stood sound r ∙ ap (λ n. slice (media (target_setting t) t.number t.past) (lba * t.block) n) (sym due));
       };
     })
-sound-effect t order cdb old (XdRead lba count) contents faults effect sound due held stood does =
+sound-effect t order cdb old dropped (XdRead lba count) contents faults effect sound due held stood does =
     let e : xdread_effect t.block order cdb t.held lba (count * t.block) ≡ effect = cc in
     let len = taken-length t.block lba (count * t.block) t.held _ (taken-some t.block lba (count * t.block) t.held (held refl)) in
     subst (λ (x : Effect). Sound t lba order.stamp contents faults x) e (record {
@@ -99,11 +101,17 @@ sound-effect t order cdb old (XdRead lba count) contents faults effect sound due
         media = λ s. r.media sound;
       };
     })
-sound-effect t order cdb old (ModeSelect pf sp list) contents faults effect sound due held stood does = absurd cc
-sound-effect t order cdb old (ModeSense dbd pc page allocation) contents faults effect sound due held stood does = absurd cc
-sound-effect t order cdb old (XdWriteExtended dpo fua disable lba second count address) contents faults effect sound due held stood does = absurd cc
-sound-effect t order cdb old (Rebuild dpo fua intdata lba count list) contents faults effect sound due held stood does = absurd cc
-sound-effect t order cdb old (Regenerate dpo fua intdata lba count list) contents faults effect sound due held stood does = absurd cc
+sound-effect t order cdb old dropped (ModeSelect pf sp list) contents faults effect sound due held stood does = absurd cc
+sound-effect t order cdb old dropped (ModeSense dbd pc page allocation) contents faults effect sound due held stood does = absurd cc
+sound-effect t order cdb old dropped (XdWriteExtended dpo fua false lba second count address) contents faults effect sound due held stood does =
+    let e : xdwrite_extended_effect order cdb t.held old dropped lba ≡ effect = cc in
+    subst (λ (x : Effect). Sound t lba order.stamp contents faults x) e
+    (record { quiet = refl; keeps = λ told is r. record { held = r.held; media = λ s. ap (λ m. put m (lba * t.block) order.bytes) (r.media sound) } })
+sound-effect t order cdb old dropped (XdWriteExtended dpo fua true lba second count address) contents faults effect sound due held stood does =
+    let e : xdwrite_extended_disabled_effect order cdb t.held old lba ≡ effect = cc in
+    subst (λ (x : Effect). Sound t lba order.stamp contents faults x) e (record { quiet = refl; keeps = λ told is r. record { held = r.held; media = λ s. r.media sound } })
+sound-effect t order cdb old dropped (Rebuild dpo fua intdata lba count list) contents faults effect sound due held stood does = absurd cc
+sound-effect t order cdb old dropped (Regenerate dpo fua intdata lba count list) contents faults effect sound due held stood does = absurd cc
 
 -- a command that is done leaves a target
 pub done-target : (t : TargetState) (order : Order) (command : Command) (bytes : List ℕ) (after : TargetState) → IsTarget t →
@@ -112,7 +120,7 @@ pub done-target : (t : TargetState) (order : Order) (command : Command) (bytes :
     IsDone t order command bytes after → IsTarget after
 done-target t order command bytes after i sound due held d =
     let contents = rewritten t.block (row_of command) d.effect.written t.contents in
-    let s = sound-effect t order d.cdb d.old command contents after.faults d.effect sound due held d.stood d.does in
+    let s = sound-effect t order d.cdb d.old (drops_next t.number t.past) command contents after.faults d.effect sound due held d.stood d.does in
     let entry = next_entry t order.stamp d.effect.event in
     subst (λ (x : TargetState). IsTarget x) (sym d.grown) (record {
       recorded = step-recorded t entry d.effect.held (row_of command) d.effect.written contents after.faults refl i.recorded s.keeps;
@@ -147,4 +155,24 @@ pub acted-target : (never_fails : Bool) (t : TargetState) (order : Order) (comma
     IsFewWhereGone after.past answer → IsActed never_fails t order command answer after → IsTarget after
 acted-target never_fails t order command answer after i sound due held few (Does bytes done says) = done-target t order command bytes after i sound due held done
 acted-target never_fails t order command answer after i sound due held few (Fails struck says) =
+    struck-target never_fails t order.stamp after i (subst (λ (a : Answer). IsFewWhereGone after.past a) says few) struck
+
+-- who waits is nothing to the disk
+pub waiting-target : (t : TargetState) (waiting : List Waiting) → IsTarget t → IsTarget (record t { waiting = waiting })
+waiting-target t waiting i = record {
+  recorded =
+      told-map t.contents (IsRecorded t) (IsRecorded (record t { waiting = waiting })) (λ told is r. record { held = r.held; media = r.media }) i.recorded;
+  failures = i.failures;
+}
+
+-- an XDWRITE EXTENDED leaves a target, sent, dropped or failed
+pub sent-target : (never_fails : Bool) (t : TargetState) (order : Order) (command : Command) (second count address : ℕ) (answer : Answer) (after : TargetState) → IsTarget t →
+    has_failed t.number t.past ≡ false → length order.bytes ≡ data_due t.block command →
+    (is_take command ≡ true → holder_of t.block (row_of command) (count_of command * t.block) t.held ≡ None → ⊥) →
+    IsFewWhereGone after.past answer → IsSent never_fails t order command second count address answer after → IsTarget after
+sent-target never_fails t order command second count address answer after i sound due held few (Sends delta done undropped d waits says) =
+    subst (λ (x : TargetState). IsTarget x) (sym waits) (waiting-target done _ (done-target t order command delta done i sound due held d))
+sent-target never_fails t order command second count address answer after i sound due held few (Drops delta dropped d says) =
+    done-target t order command delta after i sound due held d
+sent-target never_fails t order command second count address answer after i sound due held few (Loses struck says) =
     struck-target never_fails t order.stamp after i (subst (λ (a : Answer). IsFewWhereGone after.past a) says few) struck

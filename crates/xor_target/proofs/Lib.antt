@@ -11,4 +11,9 @@ pub mod Recorded
 pub mod KeptStates
 pub mod KeptBefalls
 pub mod Handing
+pub mod WaitLists
+pub mod SentDeltas
 pub mod Possible
+pub mod RigRows
+pub mod RigAnswers
+pub mod RigSteps

@@ -5,7 +5,6 @@ use Rattle.std.proofs.lemmas.Bool.{ne_eqb}
 use Rattle.sense_data.specs.declared.senses.Sense.{Sense}
 use Rattle.sbc_cdbs.specs.declared.commands.Command.{Command}
 use Rattle.sbc_cdbs.specs.declared.commands.Command.TheVariants.{Read, Write, XdWrite, XpWrite, XdRead, XdWriteRead, ModeSelect, ModeSense, XdWriteExtended, Rebuild, Regenerate}
-use Rattle.xor_mode_page.specs.declared.pages.PageFault.{PageFault}
 use Rattle.xor_mode_page.specs.Pages.{list_fault}
 use Rattle.xor_params.specs.declared.lists.ParamFault.{ParamFault}
 use Rattle.xor_params.specs.declared.lists.ParamFault.TheVariants.{Length, Field, Memory}
@@ -22,11 +21,11 @@ last-none [] (Some sense) h = absurd cc
 last-none (Some sense ∷ rows) last h = absurd cc
 last-none (None ∷ rows) last h = last-none rows last h
 
-first-none : (o : Option Sense) (rows : List (Option Sense)) → first_some (o ∷ rows) ≡ None → o ≡ None
+pub first-none : (o : Option Sense) (rows : List (Option Sense)) → first_some (o ∷ rows) ≡ None → o ≡ None
 first-none None rows h = refl
 first-none (Some sense) rows h = absurd cc
 
-no-map : {A : Type 0} (f : A → Sense) (o : Option A) → option_map f o ≡ None → o ≡ None
+pub no-map : {A : Type 0} (f : A → Sense) (o : Option A) → option_map f o ≡ None → o ≡ None
 no-map f None h = refl
 no-map f (Some a) h = absurd cc
 

@@ -15,6 +15,7 @@ use Rattle.xor_target.specs.declared.order.Order.{Order}
 use Rattle.xor_target.specs.Admission.{command_in, row_of, count_of}
 use Rattle.xor_target.specs.Disks.{DiskState}
 use Rattle.xor_target.specs.Logs.{Logged}
+use Rattle.xor_target.specs.declared.waiting.Waiting.{Waiting}
 use Rattle.xor_target.specs.State.{TargetState, state_of, has_failed}
 use Rattle.xor_target.specs.Table.{first_answer, refused_row, shut_row, gone_row, idle_row, overlap_row, room_row, unheld_row, early_answer, is_no_blocks, is_take}
 use Rattle.xor_target.specs.Acts.{IsAdmitted, IsPossible, MovesBlocks}
@@ -54,13 +55,13 @@ some-of (XdRead lba count) moves h = nonzero count h
 some-of (XdWriteRead dpo fua disable lba count) moves h = nonzero count h
 some-of (ModeSelect pf sp list) moves h = absurd moves
 some-of (ModeSense dbd pc page allocation) moves h = absurd moves
-some-of (XdWriteExtended dpo fua disable lba second count address) moves h = absurd moves
+some-of (XdWriteExtended dpo fua disable lba second count address) moves h = nonzero count h
 some-of (Rebuild dpo fua intdata lba count list) moves h = absurd moves
 some-of (Regenerate dpo fua intdata lba count list) moves h = absurd moves
 
 -- the rows of the table, of an order that none of them answers
 record Unsaid (t : TargetState) (order : Order) (command : Command) : Type 0 where
-  gone : gone_row t order ≡ None
+  gone : gone_row t order.owner ≡ None
   idle : idle_row command ≡ None
   overlap : overlap_row t order command ≡ None
   room : room_row t order command ≡ None
@@ -69,9 +70,9 @@ record Unsaid (t : TargetState) (order : Order) (command : Command) : Type 0 whe
 all-unsaid : (t : TargetState) (order : Order) → early_answer t order ≡ None → Unsaid t order (command_in order.cdb)
 all-unsaid t order h =
     let command = command_in order.cdb in
-    let a = first-none (refused_row t order) (shut_row t order ∷ gone_row t order ∷ idle_row command ∷ overlap_row t order command ∷ room_row t order command ∷ unheld_row t order command ∷ []) h in
-    let b = first-none (shut_row t order) (gone_row t order ∷ idle_row command ∷ overlap_row t order command ∷ room_row t order command ∷ unheld_row t order command ∷ []) a.1 in
-    let c = first-none (gone_row t order) (idle_row command ∷ overlap_row t order command ∷ room_row t order command ∷ unheld_row t order command ∷ []) b.1 in
+    let a = first-none (refused_row t order) (shut_row t order.owner ∷ gone_row t order.owner ∷ idle_row command ∷ overlap_row t order command ∷ room_row t order command ∷ unheld_row t order command ∷ []) h in
+    let b = first-none (shut_row t order.owner) (gone_row t order.owner ∷ idle_row command ∷ overlap_row t order command ∷ room_row t order command ∷ unheld_row t order command ∷ []) a.1 in
+    let c = first-none (gone_row t order.owner) (idle_row command ∷ overlap_row t order command ∷ room_row t order command ∷ unheld_row t order command ∷ []) b.1 in
     let d = first-none (idle_row command) (overlap_row t order command ∷ room_row t order command ∷ unheld_row t order command ∷ []) c.1 in
     let e = first-none (overlap_row t order command) (room_row t order command ∷ unheld_row t order command ∷ []) d.1 in
     let f = first-none (room_row t order command) (unheld_row t order command ∷ []) e.1 in
@@ -90,10 +91,10 @@ admitted-held t order command h is take none =
     let some = second-false (is_take command) (is_none (holder_of t.block (row_of command) (count_of command * t.block) t.held)) (unsaid _ _ u.unheld) take in
     false≢true (sym some ∙ ap is_none none)
 
-pub admitted-possible : (n : ℕ) (f p : XorPage) (disk : DiskState) (log : Logged) (order : Order) (admitted : Admitted) → IsAdmitted (state_of n f p disk log) order admitted →
+pub admitted-possible : (n : ℕ) (f p : XorPage) (w : List Waiting) (disk : DiskState) (log : Logged) (order : Order) (admitted : Admitted) → IsAdmitted (state_of n f p w disk log) order admitted →
     MovesBlocks admitted.command → IsPossible disk order admitted.command
-admitted-possible n f p disk log order admitted a moves =
-    let t = state_of n f p disk log in
+admitted-possible n f p w disk log order admitted a moves =
+    let t = state_of n f p w disk log in
     let command = admitted.command in
     let u = subst (λ (c : Command). Unsaid t order c) (sym a.command) (all-unsaid t order a.early) in
     record {

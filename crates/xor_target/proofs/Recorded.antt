@@ -26,7 +26,7 @@ told-after block row None (Some told) P h = h
 told-after block row (Some blocks) None P h = tt
 told-after block row (Some blocks) (Some told) P h = h
 
-told-map : (contents : Option (List ℕ)) (P Q : List ℕ → Type 0) → ((told : List ℕ) → contents ≡ Some told → P told → Q told) → IfSome contents P → IfSome contents Q
+pub told-map : (contents : Option (List ℕ)) (P Q : List ℕ → Type 0) → ((told : List ℕ) → contents ≡ Some told → P told → Q told) → IfSome contents P → IfSome contents Q
 told-map None P Q f h = tt
 told-map (Some told) P Q f h = f told refl h
 

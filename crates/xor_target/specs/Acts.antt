@@ -23,10 +23,11 @@ use Rattle.xor_target.specs.Befalls.{IsFresh}
 use Rattle.xor_target.specs.Disks.{DiskState, HasFailed}
 use Rattle.xor_target.specs.declared.admission.Admitted.{Admitted}
 use Rattle.xor_target.specs.Admission.{command_in, row_of, count_of, data_due, IsServed, AsksForKept, HasSoundList}
+use Rattle.xor_target.specs.declared.waiting.Waiting.{Waiting}
 use Rattle.xor_target.specs.State.{TargetState, state_of, limits_of}
 use Rattle.xor_target.specs.Table.{is_take, early_answer}
 use Rattle.xor_target.specs.Effects.{Effect, effect_of, rewritten}
-use Rattle.xor_target.specs.Logs.{Logged}
+use Rattle.xor_target.specs.Logs.{Logged, drops_next}
 
 -- all that the entry of a command needs is there, or that of a loss
 pub record IsPrepared (never_fails : Bool) (disk : DiskState) (log : Logged) (seen : ℕ) (ready : Prepared) : Type 0 where
@@ -86,7 +87,7 @@ MovesBlocks (XdRead lba count) = Unit {0}
 MovesBlocks (XdWriteRead dpo fua disable lba count) = Unit {0}
 MovesBlocks (ModeSelect pf sp list) = ⊥
 MovesBlocks (ModeSense dbd pc page allocation) = ⊥
-MovesBlocks (XdWriteExtended dpo fua disable lba second count address) = ⊥
+MovesBlocks (XdWriteExtended dpo fua disable lba second count address) = Unit {0}
 MovesBlocks (Rebuild dpo fua intdata lba count list) = ⊥
 MovesBlocks (Regenerate dpo fua intdata lba count list) = ⊥
 
@@ -110,7 +111,7 @@ pub record IsActOf (command : Command) (act : BlockAct) : Type 0 where
 -- a command was done by its effect
 pub record IsPerformed (disk : DiskState) (log : Logged) (order : Order) (command : Command) (act : BlockAct) (bytes : List ℕ) (disk_after : DiskState) (log_after : Logged) : Type 0 where
   pub effect_by : List ℕ → Effect
-  pub does : (old : List ℕ) → effect_of disk.block order act.cdb disk.buffer.list old command ≡ Some (effect_by old)
+  pub does : (old : List ℕ) → effect_of disk.block order act.cdb disk.buffer.list old (drops_next log.number log.past) command ≡ Some (effect_by old)
   pub done : HasEffect disk log act effect_by bytes disk_after log_after
 
 -- an order is to be done: nothing is said to it before, and its command is sound
@@ -122,17 +123,18 @@ pub record IsAdmitted (t : TargetState) (order : Order) (admitted : Admitted) : 
   pub within : row_of admitted.command + count_of admitted.command ≤ t.rows
   pub fits : row_of admitted.command + count_of admitted.command ≤ 2 ^ 32
   pub due : length order.bytes ≡ data_due t.block admitted.command
+  pub counted : count_of admitted.command ≤ 65535
   pub kept : AsksForKept admitted.command
   pub listed : HasSoundList (limits_of t) admitted.command order.bytes
 
 -- a fresh disk came, or the medium failed at it; the mode page isn't the disk's
-abbrev pub IsRenewedAs : Bool → ℕ → XorPage → XorPage → DiskState → Logged → ℕ → At → ℕ → DiskState → Logged → Result (List At) GoneAt → Type 0
-IsRenewedAs never_fails targets first page disk log call swap seen disk_after log_after (Ok made) =
-    (made ≡ next_name (state_of targets first page disk log) seen ∷ [])
-    × IsFresh (state_of targets first page disk log) call swap seen (state_of targets first first disk_after log_after)
-IsRenewedAs never_fails targets first page disk log call swap seen disk_after log_after (Err gone) =
-    (gone ≡ record { at = next_name (state_of targets first page disk log) seen; life = life_of log.number log.past })
-    × IsStruck never_fails (state_of targets first page disk log) seen (state_of targets first page disk_after log_after)
+abbrev pub IsRenewedAs : Bool → ℕ → XorPage → XorPage → List Waiting → DiskState → Logged → ℕ → At → ℕ → DiskState → Logged → Result (List At) GoneAt → Type 0
+IsRenewedAs never_fails targets first page waiting disk log call swap seen disk_after log_after (Ok made) =
+    (made ≡ next_name (state_of targets first page waiting disk log) seen ∷ [])
+    × IsFresh (state_of targets first page waiting disk log) call swap seen (state_of targets first first waiting disk_after log_after)
+IsRenewedAs never_fails targets first page waiting disk log call swap seen disk_after log_after (Err gone) =
+    (gone ≡ record { at = next_name (state_of targets first page waiting disk log) seen; life = life_of log.number log.past })
+    × IsStruck never_fails (state_of targets first page waiting disk log) seen (state_of targets first page waiting disk_after log_after)
 
 -- where a disk is answered to be lost, a log has fewer entries than a count of failures can tell
 abbrev pub IsFewWhereGone : List Entry → Answer → Type 0

@@ -46,9 +46,9 @@ abbrev pub refused_code : XorPage → List ℕ → Option Sense
 refused_code page [] = None
 refused_code page (code ∷ cdb) = then_some (is_refused_code page code) (illegal 0x20 0 None)
 
--- XDWRITE EXTENDED, REBUILD and REGENERATE, which no target serves yet
+-- REBUILD and REGENERATE, which no target serves yet
 abbrev pub is_unserved : ℕ → Bool
-is_unserved code = code == 0x80 || code == 0x81 || code == 0x82
+is_unserved code = code == 0x81 || code == 0x82
 
 abbrev pub unserved : List ℕ → Option Sense
 unserved [] = None
@@ -193,7 +193,6 @@ refusal_of limits page cdb bytes = first_some (cdb_rows page cdb ++ command_rows
 
 -- the command is none of those that aren't served
 abbrev pub IsServed : Command → Type 0
-IsServed (XdWriteExtended dpo fua disable lba second count address) = ⊥
 IsServed (Rebuild dpo fua intdata lba count list) = ⊥
 IsServed (Regenerate dpo fua intdata lba count list) = ⊥
 IsServed command = Unit {0}

@@ -1,12 +1,15 @@
 -- The answer of a target to an order, and what the target is afterwards.
-use Rattle.std.specs.Prelude.{◌≡◌, ◌≤◌, ◌+◌, ◌*◌, ◌==◌, ℕ, Bool, max, List, [], ◌∷◌, ◌++◌, take, Option, Some, None, IfSome, if◌then◌else◌}
+use Rattle.std.specs.Prelude.{◌≡◌, ◌≤◌, ◌+◌, ◌*◌, ◌==◌, ℕ, Bool, true, false, max, List, [], ◌∷◌, ◌++◌, take, Option, Some, None, IfSome, MatchOption, if◌then◌else◌}
+use Rattle.std.proofs.Common.{subst, lit<}
 use Rattle.blocks_core.specs.Lists.{slice}
+use Rattle.sense_data.specs.declared.senses.Pointer.{Pointer}
+use Rattle.sense_data.specs.declared.senses.Sense.{Sense}
 use Rattle.sbc_cdbs.specs.declared.descriptor.Cdb.{Cdb}
-use Rattle.sbc_cdbs.specs.Cdbs.{cdb_bytes}
+use Rattle.sbc_cdbs.specs.Cdbs.{cdb_bytes, spelling}
 use Rattle.sbc_cdbs.specs.declared.commands.Command.{Command}
 use Rattle.sbc_cdbs.specs.declared.commands.Command.TheVariants as sbc
 use Rattle.xor_mode_page.specs.declared.pages.XorPage.{XorPage}
-use Rattle.xor_mode_page.specs.Pages.{sense_header, spelling, changeable, Selects}
+use Rattle.xor_mode_page.specs.Pages as pages
 use Rattle.xor_buffers.specs.Held.{owners_of}
 use Rattle.array_journal.specs.declared.entry.Entry.{Entry}
 use Rattle.array_journal.specs.declared.event.Event.{Event}
@@ -15,10 +18,11 @@ use Rattle.array_journal.specs.declared.at.At.{At}
 use Rattle.array_journal.specs.Lives.{life_of}
 use Rattle.array_journal.specs.Owners.{discarded_at}
 use Rattle.xor_target.specs.declared.order.Order.{Order}
+use Rattle.xor_target.specs.declared.order.PeerRequest.{PeerRequest}
 use Rattle.xor_target.specs.declared.answer.Answer.{Answer}
-use Rattle.xor_target.specs.declared.answer.Answer.TheVariants.{Good, Gone, Memory}
+use Rattle.xor_target.specs.declared.answer.Answer.TheVariants.{Good, Check, Gone, Peer, Memory}
 use Rattle.xor_target.specs.Disks.{HasFailed}
-use Rattle.xor_target.specs.Logs.{last_stamp}
+use Rattle.xor_target.specs.Logs.{last_stamp, drops_next}
 use Rattle.xor_target.specs.Admission.{command_in, row_of, count_of}
 use Rattle.xor_target.specs.State.{TargetState}
 use Rattle.xor_target.specs.Table.{early_answer}
@@ -45,7 +49,7 @@ pub record IsDone (t : TargetState) (order : Order) (command : Command) (bytes :
   pub effect : Effect
   pub sent : cdb_bytes cdb ≡ order.cdb
   pub stood : IfSome t.contents (λ told. old ≡ slice told (row_of command * t.block) (count_of command * t.block))
-  pub does : effect_of t.block order cdb t.held old command ≡ Some effect
+  pub does : effect_of t.block order cdb t.held old (drops_next t.number t.past) command ≡ Some effect
   pub answers : bytes ≡ effect.answer
   pub counted : t.faults ≤ after.faults
   pub grown : after ≡ record t {
@@ -78,17 +82,17 @@ lost_now t seen loss = Gone (next_name t seen) (life_of t.number t.past) loss
 
 -- the page that a page control asks for: the current one, the bits that may be changed, the first one
 abbrev pub page_shown : TargetState → ℕ → XorPage
-page_shown t pc = if pc == 1 then changeable else if pc == 2 then t.first else t.page
+page_shown t pc = if pc == 1 then pages.changeable else if pc == 2 then t.first else t.page
 
 -- MODE SENSE answers the header and the page, cut to the allocation length
 pub record IsSensed (t : TargetState) (pc allocation : ℕ) (answer : Answer) (after : TargetState) : Type 0 where
-  pub says : answer ≡ Good (take allocation (sense_header ++ spelling (page_shown t pc))) []
+  pub says : answer ≡ Good (take allocation (pages.sense_header ++ pages.spelling (page_shown t pc))) []
   pub same : after ≡ t
 
 -- MODE SELECT sets the page by the list
 pub record IsSelected (t : TargetState) (order : Order) (answer : Answer) (after : TargetState) : Type 0 where
   pub says : answer ≡ Good [] []
-  pub selects : Selects order.bytes t.page after.page
+  pub selects : pages.Selects order.bytes t.page after.page
   pub same : after ≡ record t { page = after.page }
 
 -- ---- answers
@@ -100,9 +104,52 @@ pub data IsActed (never_fails : Bool) (t : TargetState) (order : Order) (command
   Fails : IsStruck never_fails t order.stamp after → answer ≡ lost_now t order.stamp (discarded_at t.number order.owner after.past) →
       IsActed never_fails t order command answer after
 
+-- ABORTED COMMAND: a request to another target was dropped, or that target refused it
+abbrev pub communication_failure : Sense
+communication_failure = record {
+  key = 11;
+  information = None;
+  specific = 0;
+  asc = 8;
+  ascq = 0;
+  fru = 0;
+  pointer = None;
+  in_range = lit< tt;
+  illegal = λ p e. subst (λ (o : Option Pointer). MatchOption o (Unit {0}) (λ x. ◌≡◌ {A = ℕ} 11 5)) e tt;
+}
+
+-- An XPWRITE of the command at a row, which rests on the entry of this name, and folds a delta there.
+abbrev pub fold_order : At → Order → ℕ → ℕ → List ℕ → Order
+fold_order name order row count delta = record {
+  owner = order.owner;
+  opened = order.opened;
+  names = name ∷ [];
+  stamp = name.stamp;
+  cdb = spelling (sbc.XpWrite false false row count);
+  bytes = delta;
+}
+
+-- the request that a delta is folded at another target
+abbrev pub fold_request : ℕ → At → Order → ℕ → ℕ → ℕ → List ℕ → PeerRequest
+fold_request number name order row count target delta = record { from = number; to = target; order = fold_order name order row count delta }
+
+-- XDWRITE EXTENDED was done, and its delta is sent away, for which it waits; or the request is dropped, and what was made
+-- stands; or the medium failed.
+pub data IsSent (never_fails : Bool) (t : TargetState) (order : Order) (command : Command) (second count address : ℕ) (answer : Answer) (after : TargetState) : Type 0 where
+  Sends : (delta : List ℕ) (done : TargetState) → drops_next t.number t.past ≡ false → IsDone t order command delta done →
+      after ≡ record done { waiting = t.waiting ++ record { owner = order.owner; made = next_name t order.stamp ∷ [] } ∷ [] } →
+      answer ≡ Peer (fold_request t.number (next_name t order.stamp) order second count address delta) (next_name t order.stamp ∷ []) → IsSent never_fails t order command second count address answer after
+  Drops : (delta : List ℕ) → drops_next t.number t.past ≡ true → IsDone t order command delta after →
+      answer ≡ Check communication_failure (next_name t order.stamp ∷ []) (Some (next_name t order.stamp)) →
+      IsSent never_fails t order command second count address answer after
+  Loses : IsStruck never_fails t order.stamp after → answer ≡ lost_now t order.stamp (discarded_at t.number order.owner after.past) →
+      IsSent never_fails t order command second count address answer after
+
 abbrev pub IsExecuted : Bool → TargetState → Order → Answer → TargetState → Command → Type 0
 IsExecuted never_fails t order answer after (sbc.ModeSense dbd pc page allocation) = IsSensed t pc allocation answer after
 IsExecuted never_fails t order answer after (sbc.ModeSelect pf sp list) = IsSelected t order answer after
+IsExecuted never_fails t order answer after (sbc.XdWriteExtended dpo fua disable lba second count address) =
+    IsSent never_fails t order (sbc.XdWriteExtended dpo fua disable lba second count address) second count address answer after
 IsExecuted never_fails t order answer after command = IsActed never_fails t order command answer after
 
 -- The answer to an order, and the target afterwards. Want of memory comes only where the command would be done; it, and what is

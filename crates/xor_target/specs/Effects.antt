@@ -1,6 +1,6 @@
 -- What each command does at a target: what it writes, what the buffer then holds, what it answers, and the event of its
 -- entry (SBC, the XOR commands). The old bytes are the medium's rows before it.
-use Rattle.std.specs.Prelude.{◌*◌, ◌-◌, ℕ, true, false, List, [], ◌∷◌, ◌++◌, Option, Some, None, option_map, if◌then◌else◌}
+use Rattle.std.specs.Prelude.{◌*◌, ◌-◌, ℕ, Bool, true, false, List, [], ◌∷◌, ◌++◌, Option, Some, None, option_map, if◌then◌else◌}
 use Rattle.std.specs.Option.{unwrap_or}
 use Rattle.blocks_core.specs.Lists.{slice, put}
 use Rattle.blocks_core.specs.Xor.{xor}
@@ -88,6 +88,24 @@ xdwriteread_disabled_effect order cdb held old lba = record {
   answer = xor old order.bytes;
 }
 
+-- XDWRITE EXTENDED writes the data sent; the old data exclusive-or them go to the secondary target, unless they are dropped
+abbrev pub xdwrite_extended_effect : Order → Cdb → List HeldBlocks → List ℕ → Bool → ℕ → Effect
+xdwrite_extended_effect order cdb held old dropped lba = record {
+  event = Diff order.owner order.opened cdb lba order.bytes true dropped false;
+  written = Some order.bytes;
+  held = held;
+  answer = xor old order.bytes;
+}
+
+-- with DISABLE WRITE the same go there, and nothing is written
+abbrev pub xdwrite_extended_disabled_effect : Order → Cdb → List HeldBlocks → List ℕ → ℕ → Effect
+xdwrite_extended_disabled_effect order cdb held old lba = record {
+  event = Hold order.owner order.opened cdb lba (xor old order.bytes) false order.names false;
+  written = None;
+  held = held;
+  answer = xor old order.bytes;
+}
+
 -- XPWRITE writes the old data exclusive-or the data sent
 abbrev pub xpwrite_effect : Order → Cdb → List HeldBlocks → List ℕ → ℕ → Effect
 xpwrite_effect order cdb held old lba = record {
@@ -106,22 +124,26 @@ xdread_effect block order cdb held lba len = record {
   answer = bytes_taken block lba len held;
 }
 
--- What a command does with its blocks. The MODE commands have none; the commands that ask other targets aren't served.
-abbrev pub effect_of : ℕ → Order → Cdb → List HeldBlocks → List ℕ → Command → Option Effect
-effect_of block order cdb held old (Read dpo fua lba count) = Some (read_effect order cdb held old lba)
-effect_of block order cdb held old (Write dpo fua lba count) = Some (write_effect order cdb held lba)
-effect_of block order cdb held old (XdWrite dpo fua false lba count) = Some (xdwrite_effect order cdb held old lba)
-effect_of block order cdb held old (XdWrite dpo fua true lba count) = Some (xdwrite_disabled_effect order cdb held old lba)
-effect_of block order cdb held old (XdWriteRead dpo fua false lba count) = Some (xdwriteread_effect order cdb held old lba)
-effect_of block order cdb held old (XdWriteRead dpo fua true lba count) = Some (xdwriteread_disabled_effect order cdb held old lba)
-effect_of block order cdb held old (XpWrite dpo fua lba count) = Some (xpwrite_effect order cdb held old lba)
-effect_of block order cdb held old (XdRead lba count) =
+-- What a command does with its blocks, where a request of it would be dropped or not. The MODE commands have none; the
+-- commands that ask other targets for blocks aren't served.
+abbrev pub effect_of : ℕ → Order → Cdb → List HeldBlocks → List ℕ → Bool → Command → Option Effect
+effect_of block order cdb held old dropped (Read dpo fua lba count) = Some (read_effect order cdb held old lba)
+effect_of block order cdb held old dropped (Write dpo fua lba count) = Some (write_effect order cdb held lba)
+effect_of block order cdb held old dropped (XdWrite dpo fua false lba count) = Some (xdwrite_effect order cdb held old lba)
+effect_of block order cdb held old dropped (XdWrite dpo fua true lba count) = Some (xdwrite_disabled_effect order cdb held old lba)
+effect_of block order cdb held old dropped (XdWriteRead dpo fua false lba count) = Some (xdwriteread_effect order cdb held old lba)
+effect_of block order cdb held old dropped (XdWriteRead dpo fua true lba count) = Some (xdwriteread_disabled_effect order cdb held old lba)
+effect_of block order cdb held old dropped (XpWrite dpo fua lba count) = Some (xpwrite_effect order cdb held old lba)
+effect_of block order cdb held old dropped (XdRead lba count) =
     Some (xdread_effect block order cdb held lba (count * block))
-effect_of block order cdb held old (ModeSelect pf sp list) = None
-effect_of block order cdb held old (ModeSense dbd pc page allocation) = None
-effect_of block order cdb held old (XdWriteExtended dpo fua disable lba second count address) = None
-effect_of block order cdb held old (Rebuild dpo fua intdata lba count list) = None
-effect_of block order cdb held old (Regenerate dpo fua intdata lba count list) = None
+effect_of block order cdb held old dropped (ModeSelect pf sp list) = None
+effect_of block order cdb held old dropped (ModeSense dbd pc page allocation) = None
+effect_of block order cdb held old dropped (XdWriteExtended dpo fua false lba second count address) =
+    Some (xdwrite_extended_effect order cdb held old dropped lba)
+effect_of block order cdb held old dropped (XdWriteExtended dpo fua true lba second count address) =
+    Some (xdwrite_extended_disabled_effect order cdb held old lba)
+effect_of block order cdb held old dropped (Rebuild dpo fua intdata lba count list) = None
+effect_of block order cdb held old dropped (Regenerate dpo fua intdata lba count list) = None
 
 -- a medium's bytes, where they are told, with what an effect writes from a row on
 abbrev pub rewritten : ℕ → ℕ → Option (List ℕ) → Option (List ℕ) → Option (List ℕ)

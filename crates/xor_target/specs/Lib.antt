@@ -3,9 +3,15 @@ pub mod Codes
 pub mod Logs
 pub mod Facts
 pub mod Disks
+pub mod Ways
+pub mod Waits
 pub mod State
 pub mod Table
 pub mod Effects
 pub mod Answers
+pub mod Sending
 pub mod Befalls
+pub mod Resumes
 pub mod Acts
+pub mod Rigs
+pub mod Lends

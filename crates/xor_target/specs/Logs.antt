@@ -1,8 +1,9 @@
 -- What a target's log is seen as.
-use Rattle.std.specs.Prelude.{ℕ, List, [], ◌∷◌, length}
+use Rattle.std.specs.Prelude.{nat_lt, ℕ, Bool, List, [], ◌∷◌, length}
 use Rattle.array_journal.specs.declared.entry.Entry.{Entry}
 use Rattle.array_journal.specs.declared.event.Event.{Event}
 use Rattle.array_journal.specs.declared.event.Event.TheVariants.{Gone, Wiped, Fresh}
+use Rattle.array_journal.specs.Media.{drops}
 
 -- A log: the target's number, its entries, the newest first, how many more entries there is room for, and for how many
 -- owners, so that they take no memory.
@@ -23,3 +24,7 @@ seats_of (Gone life call commands) = length commands
 seats_of (Wiped what call commands) = length commands
 seats_of (Fresh call swap) = 0
 seats_of _ = 1
+
+-- the next request to a peer is to be dropped at target i
+abbrev pub drops_next : ℕ → List Entry → Bool
+drops_next i past = nat_lt 0 (drops i past)

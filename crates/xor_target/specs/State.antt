@@ -1,5 +1,5 @@
 -- What is seen of a target, and that its disk is what its entries say.
-use Rattle.std.specs.Prelude.{◌≡◌, ◌==◌, ◌≤◌, ◌+◌, ℕ, Bool, true, false, List, [], ◌∷◌, Option, IfSome, if◌then◌else◌}
+use Rattle.std.specs.Prelude.{◌≡◌, ◌==◌, ◌≤◌, ◌+◌, ℕ, Bool, true, false, List, [], ◌∷◌, Option, is_some, IfSome, if◌then◌else◌}
 use Rattle.stripe_layout.specs.declared.mode.Mode.TheVariants.{Supervised}
 use Rattle.xor_mode_page.specs.declared.pages.XorPage.{XorPage}
 use Rattle.xor_buffers.specs.declared.held.HeldBlocks.{HeldBlocks}
@@ -12,10 +12,12 @@ use Rattle.array_journal.specs.Entries.{count_at}
 use Rattle.xor_target.specs.declared.limits.TargetLimits.{TargetLimits}
 use Rattle.xor_target.specs.Disks.{DiskState}
 use Rattle.xor_target.specs.Logs.{Logged}
+use Rattle.xor_target.specs.declared.waiting.Waiting.{Waiting}
+use Rattle.xor_target.specs.Waits.{waiting_of}
 
 -- A target: its number, how many targets there are, the bytes of a block, its rows, the blocks that its buffer may hold,
 -- its first mode page and the one that it has now, its entries with the newest first, the blocks that it holds, the bytes
--- of its medium where they are told, and how often that failed.
+-- of its medium where they are told, how often that failed, and the commands that wait for other targets.
 pub record TargetState : Type 0 where
   pub number : ℕ
   pub targets : ℕ
@@ -28,10 +30,11 @@ pub record TargetState : Type 0 where
   pub held : List HeldBlocks
   pub contents : Option (List ℕ)
   pub faults : ℕ
+  pub waiting : List Waiting
 
 -- a target by its disk and its log
-abbrev pub state_of : ℕ → XorPage → XorPage → DiskState → Logged → TargetState
-state_of targets first page disk log = record {
+abbrev pub state_of : ℕ → XorPage → XorPage → List Waiting → DiskState → Logged → TargetState
+state_of targets first page waiting disk log = record {
   number = log.number;
   targets = targets;
   block = disk.block;
@@ -43,15 +46,16 @@ state_of targets first page disk log = record {
   held = disk.buffer.list;
   contents = disk.contents;
   faults = disk.faults;
+  waiting = waiting;
 }
 
 -- what of it decides whether a CDB is admitted, besides its page
 abbrev pub limits_of : TargetState → TargetLimits
 limits_of t = record { number = t.number; targets = t.targets; block = t.block; rows = t.rows }
 
--- an order of the owner isn't answered yet, or blocks are gathered for it; no command that is served asks other targets
+-- an order of the owner isn't answered yet, since another target is asked for it
 abbrev pub is_waiting : TargetState → ℕ → Bool
-is_waiting t owner = false
+is_waiting t owner = is_some (waiting_of owner t.waiting)
 
 -- The setting by which a target alone is told from its entries: its rows are one stripe. What a medium and a buffer hold
 -- hangs on the block and the rows alone.

@@ -41,25 +41,25 @@ abbrev pub is_no_blocks : Option ℕ → Bool
 is_no_blocks None = false
 is_no_blocks (Some count) = count == 0
 
--- the newest entry that discarded blocks of the order's owner
-abbrev pub loss_for : TargetState → Order → Option At
-loss_for t order = discarded_at t.number order.owner t.past
+-- the newest entry that discarded blocks of an owner
+abbrev pub loss_for : TargetState → ℕ → Option At
+loss_for t owner = discarded_at t.number owner t.past
 
 -- CHECK CONDITION; nothing was made
 abbrev pub check : TargetState → Order → Sense → Answer
-check t order sense = Check sense [] (loss_for t order)
+check t order sense = Check sense [] (loss_for t order.owner)
 
 -- the CDB, or the data that came with it, is refused whatever the target's state
 abbrev pub refused_row : TargetState → Order → Option Answer
 refused_row t order = option_map (check t order) (refusal_of (limits_of t) t.page order.cdb order.bytes)
 
 -- the owner was shut here
-abbrev pub shut_row : TargetState → Order → Option Answer
-shut_row t order = option_map Shut (shut_at t.number order.owner t.past)
+abbrev pub shut_row : TargetState → ℕ → Option Answer
+shut_row t owner = option_map Shut (shut_at t.number owner t.past)
 
 -- the disk was lost, and no fresh one came
-abbrev pub gone_row : TargetState → Order → Option Answer
-gone_row t order = option_map (λ at. Gone at (life_of t.number t.past) (loss_for t order)) (loss_of t.number t.past)
+abbrev pub gone_row : TargetState → ℕ → Option Answer
+gone_row t owner = option_map (λ at. Gone at (life_of t.number t.past) (loss_for t owner)) (loss_of t.number t.past)
 
 -- A command of no blocks is good, and nothing is done. The MODE commands have no number of blocks, and do their work behind
 -- this row.
@@ -86,8 +86,8 @@ abbrev pub early_answer : TargetState → Order → Option Answer
 early_answer t order =
     first_answer
     (refused_row t order
-    ∷ shut_row t order
-    ∷ gone_row t order
+    ∷ shut_row t order.owner
+    ∷ gone_row t order.owner
     ∷ idle_row (command_in order.cdb)
     ∷ overlap_row t order (command_in order.cdb)
     ∷ room_row t order (command_in order.cdb)

@@ -97,11 +97,11 @@ fn is_shut_out(page: &XorPage, cdb: &[u8]) -> bool
     }
 }
 
-/// XDWRITE EXTENDED, REBUILD and REGENERATE.
+/// REBUILD and REGENERATE.
 fn is_unserved(code: u8) -> bool
     ensures { result ≡ is_unserved code }
 {
-    matches!(code, 0x80..=0x82)
+    matches!(code, 0x81 | 0x82)
 }
 
 fn fault_sense(fault: CdbFault) -> Sense

@@ -4,10 +4,9 @@
 ghost use Rattle.std.specs.Prelude.{◌≡◌, ◌≤◌, ◌<◌, ◌+◌, ◌-◌, ◌^◌, [], ◌∷◌, max, reverse, length, true, IfOk, OnOk, OnErr};
 ghost use Rattle.std.specs.List.{AllByRecursion};
 ghost use Rattle.array_journal.specs.Lives.{loss_of, life_of, is_fresh};
-ghost use Rattle.array_journal.specs.Media.{drops};
 ghost use Rattle.array_journal.specs.Merge.{Rises};
 ghost use Rattle.array_journal.specs.Owners.{has_acted, shut_at, discarded_at};
-ghost use Rattle.xor_target.specs.Logs.{last_stamp, seats_of};
+ghost use Rattle.xor_target.specs.Logs.{last_stamp, seats_of, drops_next};
 
 mod facts;
 mod owner_states;
@@ -149,11 +148,11 @@ impl TargetLog {
         self.facts.life as u32
     }
 
-    /// How many requests to peers are still to be dropped.
-    pub fn drops(&self) -> usize
-        ensures { result ≡ drops self.now.number self.now.past }
+    /// Whether the next request to a peer is to be dropped.
+    pub fn drops_next(&self) -> bool
+        ensures { result ≡ drops_next self.now.number self.now.past }
     {
-        self.facts.drops
+        self.facts.drops > 0
     }
 
     /// The entries, the oldest first. All are of the target's lock, and their stamps rise.

@@ -14,6 +14,7 @@ mod perform;
 mod reading;
 mod writing;
 mod xdwrite;
+mod xdwrite_extended;
 mod xdwriteread;
 
 use crate::act::Prepared;

@@ -13,11 +13,14 @@ mod early;
 mod executing;
 mod fresh;
 mod modes;
+mod resuming;
 
 use crate::disk::Disk;
 use crate::limits::TargetLimits;
 use crate::log::TargetLog;
 use crate::logged_disk::LoggedDisk;
+use crate::logical_unit::LogicalUnit;
+use crate::waiting::WaitingList;
 use array_journal::Entries;
 use blocks_core::Memory;
 use sector_media::Medium;
@@ -31,7 +34,7 @@ pub struct Target<M: Medium + Drop> {
     targets: u8,
     first: XorPage,
     page: XorPage,
-    unit: LoggedDisk<M>,
+    unit: LogicalUnit<M>,
 }
 
 impl<M: Medium + Drop> Model for Target<M> {
@@ -39,9 +42,9 @@ impl<M: Medium + Drop> Model for Target<M> {
 
     ghost Value = { TargetState };
 
-    ghost view = { λ t. state_of t.targets t.first t.page t.unit.disk t.unit.log };
+    ghost view = { λ t. state_of t.targets t.first t.page t.unit.waiting.list t.unit.logged.disk t.unit.logged.log };
 
-    ghost invariant = { λ t. IsTarget (state_of t.targets t.first t.page t.unit.disk t.unit.log) };
+    ghost invariant = { λ t. IsTarget (state_of t.targets t.first t.page t.unit.waiting.list t.unit.logged.disk t.unit.logged.log) };
 }
 
 impl<M: Medium + Drop> Target<M> {
@@ -72,6 +75,7 @@ impl<M: Medium + Drop> Target<M> {
           held = [];
           contents = M.contents medium;
           faults = M.faults medium;
+          waiting = [];
         }) }
     {
         let disk = Disk::new(alloc, block, buffer, medium)?;
@@ -80,7 +84,10 @@ impl<M: Medium + Drop> Target<M> {
             targets,
             first: page,
             page,
-            unit: LoggedDisk { disk, log },
+            unit: LogicalUnit {
+                logged: LoggedDisk { disk, log },
+                waiting: WaitingList::new(alloc),
+            },
         })
     }
 
@@ -89,18 +96,18 @@ impl<M: Medium + Drop> Target<M> {
         ensures limits { result ≡ limits_of self.now }
     {
         TargetLimits {
-            number: self.unit.log.number(),
+            number: self.unit.logged.log.number(),
             targets: self.targets,
-            block: self.unit.disk.block(),
-            rows: self.unit.disk.rows(),
+            block: self.unit.logged.disk.block(),
+            rows: self.unit.logged.disk.rows(),
         }
     }
 
-    /// Whether an order of the owner isn't answered yet, or blocks are being gathered for it.
+    /// Whether an order of the owner isn't answered yet, since another target is asked for it.
     pub fn waits(&self, owner: u32) -> bool
         ensures { result ≡ is_waiting self.now owner }
     {
-        false
+        self.unit.waiting.of(owner).is_some()
     }
 
     /// The entries, the oldest first. All are of the target's lock, and their stamps rise. Where the medium
@@ -112,7 +119,7 @@ impl<M: Medium + Drop> Target<M> {
         ensures recorded { IfSome self.now.contents (IsRecorded self.now) }
         ensures failures { count_at (self.now.number + 1) is_failure self.now.past ≤ self.now.faults }
     {
-        self.unit.log.entries()
+        self.unit.logged.log.entries()
     }
 
     /// The entries, the medium, and whether the disk is lost. No memory is taken.
@@ -127,7 +134,8 @@ impl<M: Medium + Drop> Target<M> {
         ensures failures { count_at (self.number + 1) is_failure self.past ≤ self.faults }
     {
         let Target { unit, .. } = self;
-        let LoggedDisk { disk, log } = unit;
+        let LogicalUnit { logged, .. } = unit;
+        let LoggedDisk { disk, log } = logged;
         let gone = log.gone().is_some();
         (log.into_entries(), disk.into_medium(), gone)
     }

@@ -1,10 +1,11 @@
 //! What befalls a disk besides commands, written down in its log.
 
-ghost use Rattle.std.specs.Prelude.{◌≡◌, ◌<◌, ◌^◌, ℕ, length, IfOk, OnOk, OnErr};
+ghost use Rattle.std.specs.Prelude.{◌≡◌, ◌<◌, ◌^◌, ℕ, List, length, IfOk, OnOk, OnErr};
 ghost use Rattle.xor_mode_page.specs.declared.pages.XorPage.{XorPage};
 ghost use Rattle.xor_target.specs.Befalls.{IsShut, IsLost, IsReset, IsDropping};
 ghost use Rattle.xor_target.specs.Acts.{IsRenewedAs};
 ghost use Rattle.xor_target.specs.State.{state_of};
+ghost use Rattle.xor_target.specs.declared.waiting.Waiting.{Waiting};
 
 use super::LoggedDisk;
 use crate::answer::{GoneAt, ShutAnswer};
@@ -17,8 +18,8 @@ use std::alloc::Global;
 impl<M: Medium + Drop> LoggedDisk<M> {
     /// An owner is shut, and what it holds is let go.
     pub fn shut(&mut self, owner: u32, opened: At, seen: u64) -> Result<ShutAnswer, Memory>
-        ensures shut { IfOk result (λ answer. (targets : ℕ) (first page : XorPage) → IsShut (state_of targets first page self.old.disk self.old.log) owner opened seen answer (state_of targets first page self.new.disk self.new.log)) }
-        ensures memory { OnErr result ((targets : ℕ) (first page : XorPage) → state_of targets first page self.new.disk self.new.log ≡ state_of targets first page self.old.disk self.old.log) }
+        ensures shut { IfOk result (λ answer. (targets : ℕ) (first page : XorPage) (waiting : List Waiting) → IsShut (state_of targets first page waiting self.old.disk self.old.log) owner opened seen answer (state_of targets first page waiting self.new.disk self.new.log)) }
+        ensures memory { OnErr result ((targets : ℕ) (first page : XorPage) (waiting : List Waiting) → state_of targets first page waiting self.new.disk self.new.log ≡ state_of targets first page waiting self.old.disk self.old.log) }
     {
         let stamp = self.log.next_stamp(seen)?;
         self.log.reserve(1, 1)?;
@@ -43,8 +44,8 @@ impl<M: Medium + Drop> LoggedDisk<M> {
 
     /// The disk is lost for a call, and what is held with it.
     pub fn lose(&mut self, alloc: Global, call: u32, seen: u64) -> Result<GoneAt, Memory>
-        ensures lost { IfOk result (λ answer. (targets : ℕ) (first page : XorPage) → IsLost (state_of targets first page self.old.disk self.old.log) call seen answer (state_of targets first page self.new.disk self.new.log)) }
-        ensures memory { OnErr result ((targets : ℕ) (first page : XorPage) → state_of targets first page self.new.disk self.new.log ≡ state_of targets first page self.old.disk self.old.log) }
+        ensures lost { IfOk result (λ answer. (targets : ℕ) (first page : XorPage) (waiting : List Waiting) → IsLost (state_of targets first page waiting self.old.disk self.old.log) call seen answer (state_of targets first page waiting self.new.disk self.new.log)) }
+        ensures memory { OnErr result ((targets : ℕ) (first page : XorPage) (waiting : List Waiting) → state_of targets first page waiting self.new.disk self.new.log ≡ state_of targets first page waiting self.old.disk self.old.log) }
     {
         let stamp = self.log.next_stamp(seen)?;
         let owners = self.disk.owners(alloc)?;
@@ -62,8 +63,8 @@ impl<M: Medium + Drop> LoggedDisk<M> {
 
     /// What is held is let go.
     pub fn wipe(&mut self, alloc: Global, call: u32, seen: u64) -> Result<At, Memory>
-        ensures reset { IfOk result (λ at. (targets : ℕ) (first page : XorPage) → IsReset (state_of targets first page self.old.disk self.old.log) call seen at (state_of targets first page self.new.disk self.new.log)) }
-        ensures memory { OnErr result ((targets : ℕ) (first page : XorPage) → state_of targets first page self.new.disk self.new.log ≡ state_of targets first page self.old.disk self.old.log) }
+        ensures reset { IfOk result (λ at. (targets : ℕ) (first page : XorPage) (waiting : List Waiting) → IsReset (state_of targets first page waiting self.old.disk self.old.log) call seen at (state_of targets first page waiting self.new.disk self.new.log)) }
+        ensures memory { OnErr result ((targets : ℕ) (first page : XorPage) (waiting : List Waiting) → state_of targets first page waiting self.new.disk self.new.log ≡ state_of targets first page waiting self.old.disk self.old.log) }
     {
         let stamp = self.log.next_stamp(seen)?;
         let owners = self.disk.owners(alloc)?;
@@ -80,8 +81,8 @@ impl<M: Medium + Drop> LoggedDisk<M> {
 
     /// The next request to a peer is to be dropped.
     pub fn drop_next(&mut self, alloc: Global, call: u32, seen: u64) -> Result<At, Memory>
-        ensures dropping { IfOk result (λ at. (targets : ℕ) (first page : XorPage) → IsDropping (state_of targets first page self.old.disk self.old.log) call seen at (state_of targets first page self.new.disk self.new.log)) }
-        ensures memory { OnErr result ((targets : ℕ) (first page : XorPage) → state_of targets first page self.new.disk self.new.log ≡ state_of targets first page self.old.disk self.old.log) }
+        ensures dropping { IfOk result (λ at. (targets : ℕ) (first page : XorPage) (waiting : List Waiting) → IsDropping (state_of targets first page waiting self.old.disk self.old.log) call seen at (state_of targets first page waiting self.new.disk self.new.log)) }
+        ensures memory { OnErr result ((targets : ℕ) (first page : XorPage) (waiting : List Waiting) → state_of targets first page waiting self.new.disk self.new.log ≡ state_of targets first page waiting self.old.disk self.old.log) }
     {
         let stamp = self.log.next_stamp(seen)?;
         self.log.reserve(1, 0)?;
@@ -101,9 +102,9 @@ impl<M: Medium + Drop> LoggedDisk<M> {
         swap: At,
         seen: u64,
     ) -> Result<Result<Names, GoneAt>, Memory>
-        ensures renewed { IfOk result (λ renewed. (targets : ℕ) (first page : XorPage) → IsRenewedAs M.NEVER_FAILS targets first page self.old.disk self.old.log call swap seen self.new.disk self.new.log renewed) }
+        ensures renewed { IfOk result (λ renewed. (targets : ℕ) (first page : XorPage) (waiting : List Waiting) → IsRenewedAs M.NEVER_FAILS targets first page waiting self.old.disk self.old.log call swap seen self.new.disk self.new.log renewed) }
         ensures few { OnOk result (length self.new.log.past < 2 ^ 63) }
-        ensures memory { OnErr result ((targets : ℕ) (first page : XorPage) → state_of targets first page self.new.disk self.new.log ≡ state_of targets first page self.old.disk self.old.log) }
+        ensures memory { OnErr result ((targets : ℕ) (first page : XorPage) (waiting : List Waiting) → state_of targets first page waiting self.new.disk self.new.log ≡ state_of targets first page waiting self.old.disk self.old.log) }
     {
         // The number of a life has 32 bits.
         if self.log.life() == u32::MAX {

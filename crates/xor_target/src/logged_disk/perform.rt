@@ -35,11 +35,16 @@ impl<M: Medium + Drop> LoggedDisk<M> {
             Command::XdWriteRead { disable: true, .. } => {
                 self.xdwriteread_disabled(alloc, order, act)
             }
+            Command::XdWriteExtended { disable: false, .. } => {
+                self.xdwrite_extended(alloc, order, act)
+            }
+            Command::XdWriteExtended { disable: true, .. } => {
+                self.xdwrite_extended_disabled(alloc, order, act)
+            }
             Command::XpWrite { .. } => self.xpwrite(alloc, order, act),
             Command::XdRead { .. } => self.xdread(alloc, order, act),
             Command::ModeSelect { .. }
             | Command::ModeSense { .. }
-            | Command::XdWriteExtended { .. }
             | Command::Rebuild { .. }
             | Command::Regenerate { .. } => unreachable!(),
         }

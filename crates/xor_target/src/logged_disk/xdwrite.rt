@@ -7,7 +7,7 @@ ghost use Rattle.xor_target.specs.Effects.{xdwrite_effect, xdwrite_disabled_effe
 
 use super::LoggedDisk;
 use crate::act::{ActStop, BlockAct, Workspace};
-use crate::act_events::{diff_event, hold_event};
+use crate::act_events::{DeltaWay, diff_event, hold_event};
 use crate::order::Order;
 use blocks_core::Bytes;
 use sector_media::Medium;
@@ -34,7 +34,7 @@ impl<M: Medium + Drop> LoggedDisk<M> {
             .read_delta(act.row, order.bytes.as_slice(), &mut rows)?;
         self.disk.write(act.row, order.bytes.as_slice())?;
         self.disk.hold(order.owner, act.row, &rows, act.count);
-        let event = diff_event(order, act, kept, false);
+        let event = diff_event(order, act, kept, DeltaWay::Held);
         self.log.append(event, act.stamp);
         Ok(Bytes::new(alloc))
     }
@@ -63,7 +63,7 @@ impl<M: Medium + Drop> LoggedDisk<M> {
             .read_delta(act.row, order.bytes.as_slice(), &mut rows)?;
         kept.copy_from_slice(&rows);
         self.disk.hold(order.owner, act.row, &rows, act.count);
-        let event = hold_event(order, act, kept, names, false);
+        let event = hold_event(order, act, kept, names, DeltaWay::Held);
         self.log.append(event, act.stamp);
         Ok(Bytes::new(alloc))
     }

@@ -7,7 +7,7 @@ ghost use Rattle.xor_target.specs.Effects.{xdwriteread_effect, xdwriteread_disab
 
 use super::LoggedDisk;
 use crate::act::{ActStop, BlockAct, Workspace};
-use crate::act_events::{diff_event, hold_event};
+use crate::act_events::{DeltaWay, diff_event, hold_event};
 use crate::order::Order;
 use blocks_core::Bytes;
 use sector_media::Medium;
@@ -30,7 +30,7 @@ impl<M: Medium + Drop> LoggedDisk<M> {
         self.disk
             .read_delta(act.row, order.bytes.as_slice(), &mut rows)?;
         self.disk.write(act.row, order.bytes.as_slice())?;
-        let event = diff_event(order, act, kept, true);
+        let event = diff_event(order, act, kept, DeltaWay::Back);
         self.log.append(event, act.stamp);
         Ok(Bytes::from_vec(rows))
     }
@@ -55,7 +55,7 @@ impl<M: Medium + Drop> LoggedDisk<M> {
         self.disk
             .read_delta(act.row, order.bytes.as_slice(), &mut rows)?;
         kept.copy_from_slice(&rows);
-        let event = hold_event(order, act, kept, names, true);
+        let event = hold_event(order, act, kept, names, DeltaWay::Back);
         self.log.append(event, act.stamp);
         Ok(Bytes::from_vec(rows))
     }

@@ -49,10 +49,10 @@ impl<M: Medium + Drop> Target<M> {
         requires command { command.now ≡ command_in order.now.cdb }
         ensures { result ≡ early_answer self.now order.now }
     {
-        if let Some(answer) = self.shut_row(order) {
+        if let Some(answer) = self.shut_row(order.owner) {
             return Some(answer);
         }
-        if let Some(answer) = self.gone_row(order) {
+        if let Some(answer) = self.gone_row(order.owner) {
             return Some(answer);
         }
         if let Some(answer) = idle_row(alloc, command) {
@@ -74,30 +74,30 @@ impl<M: Medium + Drop> Target<M> {
         Answer::Check {
             sense,
             made: Names::new(alloc),
-            loss: self.unit.log.discarded_at(order.owner),
+            loss: self.unit.logged.log.discarded_at(order.owner),
         }
     }
 
     /// The owner was shut here.
-    fn shut_row(&self, order: &Order) -> Option<Answer>
-        ensures { result ≡ shut_row self.now order.now }
+    pub(super) fn shut_row(&self, owner: u32) -> Option<Answer>
+        ensures { result ≡ shut_row self.now owner }
     {
-        match self.unit.log.shut_at(order.owner) {
+        match self.unit.logged.log.shut_at(owner) {
             None => None,
             Some(at) => Some(Answer::Shut { at }),
         }
     }
 
     /// The disk is lost.
-    fn gone_row(&self, order: &Order) -> Option<Answer>
-        ensures { result ≡ gone_row self.now order.now }
+    pub(super) fn gone_row(&self, owner: u32) -> Option<Answer>
+        ensures { result ≡ gone_row self.now owner }
     {
-        match self.unit.log.gone() {
+        match self.unit.logged.log.gone() {
             None => None,
             Some(at) => Some(Answer::Gone {
                 at,
-                life: self.unit.log.life(),
-                loss: self.unit.log.discarded_at(order.owner),
+                life: self.unit.logged.log.life(),
+                loss: self.unit.logged.log.discarded_at(owner),
             }),
         }
     }
@@ -108,7 +108,7 @@ impl<M: Medium + Drop> Target<M> {
     {
         let row = command.first_block().unwrap_or(0);
         let count = command.block_count().unwrap_or(0);
-        if command.is_kept() && self.unit.disk.overlap(row, count).is_some() {
+        if command.is_kept() && self.unit.logged.disk.overlap(row, count).is_some() {
             return Some(self.check(alloc, order, Sense::illegal(SEQUENCE, 0, None)));
         }
         None
@@ -118,7 +118,7 @@ impl<M: Medium + Drop> Target<M> {
     fn room_row(&self, alloc: Global, order: &Order, command: &Command) -> Option<Answer>
         ensures { result ≡ room_row self.now order.now command.now }
     {
-        if command.is_kept() && self.unit.disk.room() < command.block_count().unwrap_or(0) {
+        if command.is_kept() && self.unit.logged.disk.room() < command.block_count().unwrap_or(0) {
             return Some(self.check(alloc, order, Sense::illegal(BUFFER_FULL, 1, None)));
         }
         None
@@ -132,7 +132,13 @@ impl<M: Medium + Drop> Target<M> {
         let Command::XdRead { lba, length } = *command else {
             return None;
         };
-        if self.unit.disk.holder(lba, u32::from(length)).is_none() {
+        if self
+            .unit
+            .logged
+            .disk
+            .holder(lba, u32::from(length))
+            .is_none()
+        {
             let sense = Sense::illegal(FIELD_IN_CDB, 0, Some(Pointer::in_cdb(2)));
             return Some(self.check(alloc, order, sense));
         }

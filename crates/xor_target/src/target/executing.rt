@@ -2,12 +2,13 @@
 
 ghost use Rattle.std.specs.Prelude.{◌≡◌, false, IfOk, OnErr};
 ghost use Rattle.xor_target.specs.Acts.{IsAdmitted, MovesBlocks};
-ghost use Rattle.xor_target.specs.Answers.{IsAnswered, IsActed, IsExecuted};
+ghost use Rattle.xor_target.specs.Answers.{IsAnswered, IsActed, IsExecuted, IsSent};
 ghost use Rattle.xor_target.specs.State.{is_waiting};
 
 use super::Target;
 use crate::admission::Admitted;
 use crate::answer::Answer;
+use crate::logical_unit::Secondary;
 use crate::order::Order;
 use blocks_core::Memory;
 use sbc_cdbs::Command;
@@ -40,6 +41,19 @@ impl<M: Medium + Drop> Target<M> {
         match admitted.command {
             Command::ModeSense { pc, allocation, .. } => self.mode_sense(alloc, pc, allocation),
             Command::ModeSelect { .. } => Ok(self.mode_select(alloc, order)),
+            Command::XdWriteExtended {
+                second,
+                length,
+                address,
+                ..
+            } => {
+                let secondary = Secondary {
+                    row: second,
+                    count: length as u16,
+                    target: address,
+                };
+                self.send(alloc, order, admitted, secondary)
+            }
             _ => self.act(alloc, order, admitted),
         }
     }
@@ -51,6 +65,22 @@ impl<M: Medium + Drop> Target<M> {
         ensures done { IfOk result (λ answer. IsActed M.NEVER_FAILS self.old order.now admitted.now.command answer self.new) }
         ensures memory { OnErr result (self.new ≡ self.old) }
     {
-        self.unit.act(alloc, order, admitted)
+        self.unit.logged.act(alloc, order, admitted)
+    }
+
+    /// Does an XDWRITE EXTENDED, and asks that its delta be folded.
+    fn send(
+        &mut self,
+        alloc: Global,
+        order: &Order,
+        admitted: &Admitted,
+        secondary: Secondary,
+    ) -> Result<Answer, Memory>
+        requires admitted { IsAdmitted self.old order.now admitted.now }
+        requires blocks { MovesBlocks admitted.now.command }
+        ensures sent { IfOk result (λ answer. IsSent M.NEVER_FAILS self.old order.now admitted.now.command secondary.row secondary.count secondary.target answer self.new) }
+        ensures memory { OnErr result (self.new ≡ self.old) }
+    {
+        self.unit.send(alloc, order, admitted, secondary)
     }
 }

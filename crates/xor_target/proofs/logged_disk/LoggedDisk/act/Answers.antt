@@ -16,7 +16,7 @@ use Rattle.xor_target.proofs.Acting.{same-state, performed-done, failed-struck}
 use Rattle.xor_target.proofs.logged_disk.LoggedDisk.act.Goals as goal
 
 pub returns-in-Ok-clause-acted : goal.returns-in-Ok-clause-acted
-returns-in-Ok-clause-acted g c targets first page =
+returns-in-Ok-clause-acted g c targets first page waiting =
     let order = c.args.order.now in
     let command = c.args.admitted.now.command in
     let self = c.args.self.now in
@@ -24,18 +24,18 @@ returns-in-Ok-clause-acted g c targets first page =
     let after = c.perform.new.self in
     let prepared = c.in_ok-ready.ensures in
     let act : BlockAct = record { cdb = c.args.admitted.now.cdb; row = c.unwrap_or.result; count = c.unwrap_or-2.result; stamp = c.in_ok-ready.ready.stamp } in
-    let same = same-state targets first page self.disk mid.disk self.log mid.log prepared.disk prepared.past prepared.number in
+    let same = same-state targets first page waiting self.disk mid.disk self.log mid.log prepared.disk prepared.past prepared.number in
     let row : act.row ≡ row_of command = search rules in
     let count : act.count ≡ count_of command = search rules in
-    let done = performed-done targets first page mid.disk after.disk mid.log after.log order command act c.in-Ok.bytes
+    let done = performed-done targets first page waiting mid.disk after.disk mid.log after.log order command act c.in-Ok.bytes
     (record { row = row; count = count }) c.requires.sent prepared.ready.stamp c.in-Ok.ensures.done in
-    Does c.in-Ok.bytes (subst (λ (t : TargetState). IsDone t order command c.in-Ok.bytes (state_of targets first page after.disk after.log)) same done)
+    Does c.in-Ok.bytes (subst (λ (t : TargetState). IsDone t order command c.in-Ok.bytes (state_of targets first page waiting after.disk after.log)) same done)
     (ap (λ names. Good c.in-Ok.bytes names)
     (prepared.ready.made ∙ ap (λ s. record { stamp = s; lock = mid.log.number + 1 } ∷ []) prepared.ready.stamp
     ∙ ap (λ (t : TargetState). next_name t order.stamp ∷ []) same))
 
 pub returns-in-Err-Failed-clause-acted : goal.returns-in-Err-Failed-clause-acted
-returns-in-Err-Failed-clause-acted g c targets first page =
+returns-in-Err-Failed-clause-acted g c targets first page waiting =
     let order = c.args.order.now in
     let self = c.args.self.now in
     let mid = c.prepare.new.self in
@@ -44,19 +44,19 @@ returns-in-Err-Failed-clause-acted g c targets first page =
     let prepared = c.in_ok-ready.ensures in
     let ready = c.in_ok-ready.ready in
     let never = g.M.Medium.NEVER_FAILS in
-    let same = same-state targets first page self.disk mid.disk self.log mid.log prepared.disk prepared.past prepared.number in
+    let same = same-state targets first page waiting self.disk mid.disk self.log mid.log prepared.disk prepared.past prepared.number in
     let stop = subst (λ (s : ActStop). IsStopped never mid.disk mid.log stopped.disk stopped.log s) c.in-Err-Failed.field-0-is c.in-Err-Failed.ensures.stopped in
     let number = c.fail-lost.ensures.number ∙ ap (λ (l : Logged). l.number) stop.2 in
-    let struck = failed-struck never targets first page mid.disk stopped.disk after.disk mid.log after.log order.stamp ready.stamp
+    let struck = failed-struck never targets first page waiting mid.disk stopped.disk after.disk mid.log after.log order.stamp ready.stamp
     ready.owners stop.0 stop.1 c.fail-lost.ensures.disk
     (c.fail-lost.ensures.past
     ∙ ap (λ (l : Logged). record { stamp = ready.stamp; lock = l.number + 1; event = events.Gone (life_of l.number l.past) 0 ready.owners } ∷ l.past) stop.2)
     number prepared.ready.stamp prepared.ready.owners in
     let loss = discarded_at after.log.number order.owner after.log.past in
-    Fails (subst (λ (t : TargetState). IsStruck never t order.stamp (state_of targets first page after.disk after.log)) same struck)
+    Fails (subst (λ (t : TargetState). IsStruck never t order.stamp (state_of targets first page waiting after.disk after.log)) same struck)
     (ap (λ (l : Option At). Gone c.fail-lost.result.at c.fail-lost.result.life l) c.discarded_at.ensures
     ∙ ap (λ (x : GoneAt). Gone x.at x.life loss) c.fail-lost.ensures.says ∙ ap (λ (l : Logged). Gone (record { stamp = ready.stamp; lock = l.number + 1 }) (life_of l.number l.past) loss) stop.2
     ∙ ap (λ s. Gone (record { stamp = s; lock = mid.log.number + 1 }) (life_of mid.log.number mid.log.past) loss) prepared.ready.stamp
     ∙ ap (λ (t : TargetState). Gone (next_name t order.stamp) (life_of t.number t.past) loss) same
-    ∙ ap (λ n. Gone (next_name (state_of targets first page self.disk self.log) order.stamp) (life_of self.log.number self.log.past) (discarded_at n order.owner after.log.past))
+    ∙ ap (λ n. Gone (next_name (state_of targets first page waiting self.disk self.log) order.stamp) (life_of self.log.number self.log.past) (discarded_at n order.owner after.log.past))
     (number ∙ prepared.number))

@@ -29,7 +29,7 @@ returns-in-Err g c =
     ∙ ap (λ cdb. refusal_of (limits_of self) self.page cdb c.as_slice-2.result.now) c.as_slice.ensures
     ∙ ap (λ bytes. refusal_of (limits_of self) self.page order.cdb bytes) c.as_slice-2.ensures in
     ap (λ o. first_answer
-    (option_map (check self order) o ∷ shut_row self order ∷ gone_row self order ∷ idle_row command ∷ overlap_row self order command ∷ room_row self order command
+    (option_map (check self order) o ∷ shut_row self order.owner ∷ gone_row self order.owner ∷ idle_row command ∷ overlap_row self order command ∷ room_row self order command
     ∷ unheld_row self order command ∷ []))
     (sym same ∙ c.in-Err.ensures.refused)
     ∙ ap Some (sym c.check.ensures)

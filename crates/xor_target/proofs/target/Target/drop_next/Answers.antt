@@ -8,29 +8,29 @@ use Rattle.xor_target.proofs.target.Target.drop_next.Goals as goal
 pub invariant_of-self : goal.invariant_of-self
 invariant_of-self g c =
     let inside = c.self.inside in
-    let unit = inside.unit in
+    let unit = inside.unit.logged in
     let new = c.drop_next.new.self in
-    let before = state_of inside.targets inside.first inside.page unit.disk unit.log in
-    let after = state_of inside.targets inside.first inside.page new.disk new.log in
+    let before = state_of inside.targets inside.first inside.page inside.unit.waiting.list unit.disk unit.log in
+    let after = state_of inside.targets inside.first inside.page inside.unit.waiting.list new.disk new.log in
     kept-target c.drop_next.result before after (λ a. IsDropping before c.args.call c.args.stamp a after)
-    (ok-at c.drop_next.result (λ a n f p. IsDropping (state_of n f p unit.disk unit.log) c.args.call c.args.stamp a (state_of n f p new.disk new.log)) inside.targets inside.first inside.page c.drop_next.ensures.dropping)
-    (err-at c.drop_next.result (λ n f p. state_of n f p new.disk new.log ≡ state_of n f p unit.disk unit.log) inside.targets inside.first inside.page c.drop_next.ensures.memory)
+    (ok-at c.drop_next.result (λ a n f p w. IsDropping (state_of n f p w unit.disk unit.log) c.args.call c.args.stamp a (state_of n f p w new.disk new.log)) inside.targets inside.first inside.page inside.unit.waiting.list c.drop_next.ensures.dropping)
+    (err-at c.drop_next.result (λ n f p w. state_of n f p w new.disk new.log ≡ state_of n f p w unit.disk unit.log) inside.targets inside.first inside.page inside.unit.waiting.list c.drop_next.ensures.memory)
     (λ a s. dropping-target before c.args.call c.args.stamp a after c.self.invariant s) c.self.invariant
 
 pub returns-clause-dropping : goal.returns-clause-dropping
 returns-clause-dropping g c =
     let inside = c.self.inside in
-    let unit = inside.unit in
+    let unit = inside.unit.logged in
     let new = c.drop_next.new.self in
-    let after = state_of inside.targets inside.first inside.page new.disk new.log in
+    let after = state_of inside.targets inside.first inside.page inside.unit.waiting.list new.disk new.log in
     subst (λ (t : TargetState). IfOk c.drop_next.result (λ a. IsDropping t c.args.call c.args.stamp a after)) c.self.view_is
-    (ok-at c.drop_next.result (λ a n f p. IsDropping (state_of n f p unit.disk unit.log) c.args.call c.args.stamp a (state_of n f p new.disk new.log)) inside.targets inside.first inside.page c.drop_next.ensures.dropping)
+    (ok-at c.drop_next.result (λ a n f p w. IsDropping (state_of n f p w unit.disk unit.log) c.args.call c.args.stamp a (state_of n f p w new.disk new.log)) inside.targets inside.first inside.page inside.unit.waiting.list c.drop_next.ensures.dropping)
 
 pub returns-clause-memory : goal.returns-clause-memory
 returns-clause-memory g c =
     let inside = c.self.inside in
-    let unit = inside.unit in
+    let unit = inside.unit.logged in
     let new = c.drop_next.new.self in
-    let after = state_of inside.targets inside.first inside.page new.disk new.log in
+    let after = state_of inside.targets inside.first inside.page inside.unit.waiting.list new.disk new.log in
     subst (λ (t : TargetState). OnErr c.drop_next.result (after ≡ t)) c.self.view_is
-    (err-at c.drop_next.result (λ n f p. state_of n f p new.disk new.log ≡ state_of n f p unit.disk unit.log) inside.targets inside.first inside.page c.drop_next.ensures.memory)
+    (err-at c.drop_next.result (λ n f p w. state_of n f p w new.disk new.log ≡ state_of n f p w unit.disk unit.log) inside.targets inside.first inside.page inside.unit.waiting.list c.drop_next.ensures.memory)

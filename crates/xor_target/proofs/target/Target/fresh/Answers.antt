@@ -12,39 +12,39 @@ use Rattle.xor_target.proofs.target.Target.fresh.Goals as goal
 pub invariant_of-self : goal.invariant_of-self
 invariant_of-self g c =
     let inside = c.self.inside in
-    let unit = inside.unit in
+    let unit = inside.unit.logged in
     let new = c.renew.new.self in
-    let before = state_of inside.targets inside.first inside.page unit.disk unit.log in
-    let after = state_of inside.targets inside.first inside.first new.disk new.log in
-    let renewed = subst (λ (r : Result (List At) GoneAt). IsRenewedAs g.M.Medium.NEVER_FAILS inside.targets inside.first inside.page unit.disk unit.log c.args.call c.args.swap c.args.stamp new.disk new.log r)
-    c.in-Ok-Ok.field-0-is (c.in-Ok-Ok.ensures.renewed inside.targets inside.first inside.page) in
+    let before = state_of inside.targets inside.first inside.page inside.unit.waiting.list unit.disk unit.log in
+    let after = state_of inside.targets inside.first inside.first inside.unit.waiting.list new.disk new.log in
+    let renewed = subst (λ (r : Result (List At) GoneAt). IsRenewedAs g.M.Medium.NEVER_FAILS inside.targets inside.first inside.page inside.unit.waiting.list unit.disk unit.log c.args.call c.args.swap c.args.stamp new.disk new.log r)
+    c.in-Ok-Ok.field-0-is (c.in-Ok-Ok.ensures.renewed inside.targets inside.first inside.page inside.unit.waiting.list) in
     fresh-target before c.args.call c.args.swap c.args.stamp after c.self.invariant renewed.1
 
 pub invariant_of-self-in-Ok-Err : goal.invariant_of-self-in-Ok-Err
 invariant_of-self-in-Ok-Err g c =
     let inside = c.self.inside in
-    let unit = inside.unit in
+    let unit = inside.unit.logged in
     let new = c.renew.new.self in
-    let before = state_of inside.targets inside.first inside.page unit.disk unit.log in
-    let after = state_of inside.targets inside.first inside.page new.disk new.log in
-    let renewed = subst (λ (r : Result (List At) GoneAt). IsRenewedAs g.M.Medium.NEVER_FAILS inside.targets inside.first inside.page unit.disk unit.log c.args.call c.args.swap c.args.stamp new.disk new.log r)
-    c.in-Ok-Err.field-0-is (c.in-Ok-Err.ensures.renewed inside.targets inside.first inside.page) in
+    let before = state_of inside.targets inside.first inside.page inside.unit.waiting.list unit.disk unit.log in
+    let after = state_of inside.targets inside.first inside.page inside.unit.waiting.list new.disk new.log in
+    let renewed = subst (λ (r : Result (List At) GoneAt). IsRenewedAs g.M.Medium.NEVER_FAILS inside.targets inside.first inside.page inside.unit.waiting.list unit.disk unit.log c.args.call c.args.swap c.args.stamp new.disk new.log r)
+    c.in-Ok-Err.field-0-is (c.in-Ok-Err.ensures.renewed inside.targets inside.first inside.page inside.unit.waiting.list) in
     struck-target g.M.Medium.NEVER_FAILS before c.args.stamp after c.self.invariant c.in-Ok-Err.ensures.few renewed.1
 
 pub invariant_of-self-in-Err : goal.invariant_of-self-in-Err
 invariant_of-self-in-Err g c =
     let inside = c.self.inside in
-    subst (λ (t : TargetState). IsTarget t) (sym (c.in-Err.ensures.memory inside.targets inside.first inside.page)) c.self.invariant
+    subst (λ (t : TargetState). IsTarget t) (sym (c.in-Err.ensures.memory inside.targets inside.first inside.page inside.unit.waiting.list)) c.self.invariant
 
 pub returns-in-Ok-Ok : goal.returns-in-Ok-Ok
 returns-in-Ok-Ok g c =
     let never = g.M.Medium.NEVER_FAILS in
     let inside = c.self.inside in
-    let unit = inside.unit in
+    let unit = inside.unit.logged in
     let new = c.renew.new.self in
-    let after = state_of inside.targets inside.first inside.first new.disk new.log in
-    let renewed = subst (λ (r : Result (List At) GoneAt). IsRenewedAs never inside.targets inside.first inside.page unit.disk unit.log c.args.call c.args.swap c.args.stamp new.disk new.log r)
-    c.in-Ok-Ok.field-0-is (c.in-Ok-Ok.ensures.renewed inside.targets inside.first inside.page) in
+    let after = state_of inside.targets inside.first inside.first inside.unit.waiting.list new.disk new.log in
+    let renewed = subst (λ (r : Result (List At) GoneAt). IsRenewedAs never inside.targets inside.first inside.page inside.unit.waiting.list unit.disk unit.log c.args.call c.args.swap c.args.stamp new.disk new.log r)
+    c.in-Ok-Ok.field-0-is (c.in-Ok-Ok.ensures.renewed inside.targets inside.first inside.page inside.unit.waiting.list) in
     subst (λ (t : TargetState). IsRenewed never t c.args.call c.args.swap c.args.stamp (Good c.new.result c.in-Ok-Ok.made) after) c.self.view_is
     (Renews renewed.1 (ap (λ b. Good b c.in-Ok-Ok.made) c.new.ensures ∙ ap (λ names. Good [] names) renewed.0))
 
@@ -52,15 +52,15 @@ pub returns-in-Ok-Err : goal.returns-in-Ok-Err
 returns-in-Ok-Err g c =
     let never = g.M.Medium.NEVER_FAILS in
     let inside = c.self.inside in
-    let unit = inside.unit in
+    let unit = inside.unit.logged in
     let new = c.renew.new.self in
-    let after = state_of inside.targets inside.first inside.page new.disk new.log in
-    let renewed = subst (λ (r : Result (List At) GoneAt). IsRenewedAs never inside.targets inside.first inside.page unit.disk unit.log c.args.call c.args.swap c.args.stamp new.disk new.log r)
-    c.in-Ok-Err.field-0-is (c.in-Ok-Err.ensures.renewed inside.targets inside.first inside.page) in
+    let after = state_of inside.targets inside.first inside.page inside.unit.waiting.list new.disk new.log in
+    let renewed = subst (λ (r : Result (List At) GoneAt). IsRenewedAs never inside.targets inside.first inside.page inside.unit.waiting.list unit.disk unit.log c.args.call c.args.swap c.args.stamp new.disk new.log r)
+    c.in-Ok-Err.field-0-is (c.in-Ok-Err.ensures.renewed inside.targets inside.first inside.page inside.unit.waiting.list) in
     subst (λ (t : TargetState). IsRenewed never t c.args.call c.args.swap c.args.stamp (Gone c.in-Ok-Err.field-0-0.at c.in-Ok-Err.field-0-0.life None) after) c.self.view_is
     (Fails renewed.1 (ap (λ (x : GoneAt). Gone x.at x.life None) renewed.0))
 
 pub returns-in-Err : goal.returns-in-Err
 returns-in-Err g c =
     let inside = c.self.inside in
-    WantsMemory refl (c.in-Err.ensures.memory inside.targets inside.first inside.page ∙ c.self.view_is)
+    WantsMemory refl (c.in-Err.ensures.memory inside.targets inside.first inside.page inside.unit.waiting.list ∙ c.self.view_is)

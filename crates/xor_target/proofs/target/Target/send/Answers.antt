@@ -1,0 +1,66 @@
+use Rattle.std.proofs.Common.{◌≡◌, subst, sym, IfOk, OnErr}
+use Rattle.xor_target.specs.State.{TargetState, state_of}
+use Rattle.xor_target.specs.Answers.{IsSent}
+use Rattle.xor_target.specs.Acts.{IsAdmitted, IsFewWhereGone}
+use Rattle.xor_target.proofs.Handing.{unit-ok, ok-both, unit-err, kept-target}
+use Rattle.xor_target.proofs.KeptStates.{sent-target}
+use Rattle.xor_target.proofs.Possible.{admitted-possible, admitted-sound, admitted-held}
+use Rattle.xor_target.proofs.target.Target.send.Goals as goal
+
+pub send-requires-clause-possible : goal.send-requires-clause-possible
+send-requires-clause-possible g c =
+    let inside = c.self.inside in
+    let unit = inside.unit.logged in
+    let admitted = subst (λ (t : TargetState). IsAdmitted t c.args.order.now c.args.admitted.now) (sym c.self.view_is) c.requires.admitted in
+    admitted-possible inside.targets inside.first inside.page inside.unit.waiting.list unit.disk unit.log c.args.order.now c.args.admitted.now admitted c.requires.blocks
+
+pub invariant_of-self : goal.invariant_of-self
+invariant_of-self g c =
+    let never = g.M.Medium.NEVER_FAILS in
+    let order = c.args.order.now in
+    let command = c.args.admitted.now.command in
+    let to = c.args.secondary in
+    let inside = c.self.inside in
+    let unit = inside.unit.logged in
+    let waiting = inside.unit.waiting.list in
+    let new = c.send.new.self in
+    let before = state_of inside.targets inside.first inside.page waiting unit.disk unit.log in
+    let after = state_of inside.targets inside.first inside.page new.waiting.list new.logged.disk new.logged.log in
+    let admitted = subst (λ (t : TargetState). IsAdmitted t order c.args.admitted.now) (sym c.self.view_is) c.requires.admitted in
+    let sent = unit-ok c.send.result
+    (λ a n f p. IsSent never (state_of n f p waiting unit.disk unit.log) order command to.row to.count to.target a (state_of n f p new.waiting.list new.logged.disk new.logged.log))
+    inside.targets inside.first inside.page c.send.ensures.sent in
+    kept-target c.send.result before after (λ a. IsSent never before order command to.row to.count to.target a after × IsFewWhereGone new.logged.log.past a)
+    (ok-both c.send.result (λ a. IsSent never before order command to.row to.count to.target a after) (IsFewWhereGone new.logged.log.past) sent c.send.ensures.few)
+    (unit-err c.send.result (λ n f p. state_of n f p new.waiting.list new.logged.disk new.logged.log ≡ state_of n f p waiting unit.disk unit.log)
+    inside.targets inside.first inside.page c.send.ensures.memory)
+    (λ a s. sent-target never before order command to.row to.count to.target a after c.self.invariant (admitted-sound before order admitted.early) admitted.due
+    (admitted-held before order command admitted.early admitted.command) s.1 s.0)
+    c.self.invariant
+
+pub returns-clause-sent : goal.returns-clause-sent
+returns-clause-sent g c =
+    let never = g.M.Medium.NEVER_FAILS in
+    let order = c.args.order.now in
+    let command = c.args.admitted.now.command in
+    let to = c.args.secondary in
+    let inside = c.self.inside in
+    let unit = inside.unit.logged in
+    let waiting = inside.unit.waiting.list in
+    let new = c.send.new.self in
+    let after = state_of inside.targets inside.first inside.page new.waiting.list new.logged.disk new.logged.log in
+    subst (λ (t : TargetState). IfOk c.send.result (λ a. IsSent never t order command to.row to.count to.target a after)) c.self.view_is
+    (unit-ok c.send.result
+    (λ a n f p. IsSent never (state_of n f p waiting unit.disk unit.log) order command to.row to.count to.target a (state_of n f p new.waiting.list new.logged.disk new.logged.log))
+    inside.targets inside.first inside.page c.send.ensures.sent)
+
+pub returns-clause-memory : goal.returns-clause-memory
+returns-clause-memory g c =
+    let inside = c.self.inside in
+    let unit = inside.unit.logged in
+    let waiting = inside.unit.waiting.list in
+    let new = c.send.new.self in
+    let after = state_of inside.targets inside.first inside.page new.waiting.list new.logged.disk new.logged.log in
+    subst (λ (t : TargetState). OnErr c.send.result (after ≡ t)) c.self.view_is
+    (unit-err c.send.result (λ n f p. state_of n f p new.waiting.list new.logged.disk new.logged.log ≡ state_of n f p waiting unit.disk unit.log)
+    inside.targets inside.first inside.page c.send.ensures.memory)
