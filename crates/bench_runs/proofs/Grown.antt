@@ -1,62 +1,220 @@
--- What a line leaves of a target's number and entries.
-use Rattle.std.proofs.Common.{◌≡◌, ◌⊎◌, ℕ, true, List, ◌∷◌, ap, inl, inr}
+-- What a piece of a line leaves of a target: its place, its entries, and for whom it waits.
+use Rattle.std.proofs.Common.{◌≡◌, ◌≢◌, ◌⊎◌, ◌<◌, ◌++◌, ◌==◌, not, ℕ, Bool, true, false, List, [], ◌∷◌, Option, None, Some, is_some, option_map, cond, refl, sym, ap, subst, ◌∙◌, inl, inr, arith}
+use Rattle.std.proofs.lemmas.Bool.{false≢true, ne_eqb}
+use Rattle.std.proofs.lemmas.Option.{same_Some}
 use Rattle.array_journal.specs.declared.entry.Entry.{Entry}
 use Rattle.array_journal.specs.declared.event.Event.{Event}
+use Rattle.array_journal.specs.Lives.{loss_of, life_of}
+use Rattle.array_journal.specs.Owners.{shut_at}
 use Rattle.sbc_cdbs.specs.declared.commands.Command.{Command}
 use Rattle.sbc_cdbs.specs.declared.commands.Command.TheVariants.{Read, Write, XdWrite, XpWrite, XdRead, XdWriteRead, ModeSelect, ModeSense, XdWriteExtended, Rebuild, Regenerate}
-use Rattle.host_scripts.specs.declared.bench.BenchAction.{BenchAction}
-use Rattle.host_scripts.specs.declared.bench.BenchAction.TheVariants.{Raw, Lose, Reset, DropNext, Fresh}
 use Rattle.xor_target.specs.declared.order.Order.{Order}
 use Rattle.xor_target.specs.declared.answer.Answer.{Answer}
+use Rattle.xor_target.specs.declared.answer.Answer.TheVariants.{Good, Check, Gone, Shut, Peer, Memory}
+use Rattle.xor_target.specs.declared.answer.PeerBack.{PeerBack}
+use Rattle.xor_target.specs.declared.waiting.Waiting.{Waiting}
 use Rattle.xor_target.specs.Admission.{command_in}
-use Rattle.xor_target.specs.State.{TargetState}
-use Rattle.xor_target.specs.Answers.{next_entry, IsActed, Does, Fails, IsExecuted, IsAnswered, WantsMemory, Tells, Executes}
-use Rattle.bench_runs.specs.BenchRuns.{IsDoneBy, line_order}
+use Rattle.xor_target.specs.Waits.{waiting_of, without_owner}
+use Rattle.xor_target.specs.State.{TargetState, is_waiting}
+use Rattle.xor_target.specs.Table.{early_answer, first_answer, shut_row, gone_row, loss_for}
+use Rattle.xor_target.specs.Answers.{next_entry, next_name, next_stamp, loss_here, IsActed, Does, Fails, IsSent, Sends, Drops, Loses, IsExecuted, IsAnswered, WantsMemory, Tells, Executes}
+use Rattle.xor_target.specs.Resumes.{no_longer, IsResumed, Ended, Folded, Refused, ended_answer, WantsMemory as LacksMemory}
+use Rattle.xor_target.specs.Rigs.{asks_further}
+use Rattle.xor_target.proofs.RigRows.{IsUnmoved}
+use Rattle.xor_target.proofs.RigAnswers.{Left, Ends, Asks, left-by}
 
--- the entries are what they were, or one more with the next stamp
-pub record Grows (stamp : ℕ) (t next : TargetState) : Type 0 where
-  pub number : next.number ≡ t.number
+-- The target is at its place, its entries are what they were, or one more with the next stamp, and it waits for no owner
+-- after the one of this number that it didn't wait for.
+pub record Grows (number stamp : ℕ) (t next : TargetState) : Type 0 where
+  pub place : IsUnmoved t next
   pub past : (next.past ≡ t.past) ⊎ ((event : Event) × (next.past ≡ next_entry t stamp event ∷ t.past))
-
-abbrev number_in : TargetState → ℕ
-number_in t = t.number
+  pub later : (owner : ℕ) → number < owner → is_waiting t owner ≡ false → is_waiting next owner ≡ false
 
 abbrev past_in : TargetState → List Entry
 past_in t = t.past
 
--- a target that is as it was
-as-before : (stamp : ℕ) (t next : TargetState) → next ≡ t → Grows stamp t next
-as-before stamp t next same = record { number = ap number_in same; past = inl (ap past_in same) }
+abbrev waiting_in : TargetState → List Waiting
+waiting_in t = t.waiting
 
--- a target with one entry more
-one-more : (stamp : ℕ) (t next : TargetState) (event : Event) → next.number ≡ t.number → next.past ≡ next_entry t stamp event ∷ t.past → Grows stamp t next
-one-more stamp t next event number past = record { number = number; past = inr (event, past) }
+-- ---- who waits
 
-moved-blocks : (t : TargetState) (order : Order) (answer : Answer) (next : TargetState) (command : Command) → IsActed true t order command answer next → Grows order.stamp t next
-moved-blocks t order answer next command (Does bytes done says) = one-more order.stamp t next done.effect.event (ap number_in done.grown) (ap past_in done.grown)
-moved-blocks t order answer next command (Fails struck says) = one-more order.stamp t next _ (ap number_in struck.grown) (ap past_in struck.grown)
+abbrev is_waited : ℕ → List Waiting → Bool
+is_waited owner ws = is_some (waiting_of owner ws)
 
-served : (t : TargetState) (order : Order) (answer : Answer) (next : TargetState) (command : Command) → IsExecuted true t order answer next command → Grows order.stamp t next
-served t order answer next (ModeSense dbd pc page allocation) s = as-before order.stamp t next s.same
-served t order answer next (ModeSelect pf sp list) s = record { number = ap number_in s.same; past = inl (ap past_in s.same) }
-served t order answer next (Read dpo fua lba count) s = moved-blocks t order answer next (Read dpo fua lba count) s
-served t order answer next (Write dpo fua lba count) s = moved-blocks t order answer next (Write dpo fua lba count) s
-served t order answer next (XdWrite dpo fua disable lba count) s = moved-blocks t order answer next (XdWrite dpo fua disable lba count) s
-served t order answer next (XpWrite dpo fua lba count) s = moved-blocks t order answer next (XpWrite dpo fua lba count) s
-served t order answer next (XdRead lba count) s = moved-blocks t order answer next (XdRead lba count) s
-served t order answer next (XdWriteRead dpo fua disable lba count) s = moved-blocks t order answer next (XdWriteRead dpo fua disable lba count) s
-served t order answer next (XdWriteExtended dpo fua disable lba second count address) s = moved-blocks t order answer next (XdWriteExtended dpo fua disable lba second count address) s
-served t order answer next (Rebuild dpo fua intdata lba count list) s = moved-blocks t order answer next (Rebuild dpo fua intdata lba count list) s
-served t order answer next (Regenerate dpo fua intdata lba count list) s = moved-blocks t order answer next (Regenerate dpo fua intdata lba count list) s
+found-other : (b : Bool) (v : Waiting) (o p : Option Waiting) → is_some (cond b (Some v) o) ≡ false → (is_some o ≡ false → is_some p ≡ false) → is_some (cond b (Some v) p) ≡ false
+found-other true v o p h rest = h
+found-other false v o p h rest = rest h
 
-answered : (t : TargetState) (order : Order) (answer : Answer) (next : TargetState) → IsAnswered true t order answer next → Grows order.stamp t next
-answered t order answer next (WantsMemory late memory same) = as-before order.stamp t next same
-answered t order answer next (Tells early same) = as-before order.stamp t next same
-answered t order answer next (Executes late by) = served t order answer next (command_in order.cdb) by
+not-further : (b : Bool) (v : Waiting) (o : Option Waiting) → is_some (cond b (Some v) o) ≡ false → is_some o ≡ false
+not-further true v o h = absurd (false≢true (sym h))
+not-further false v o h = h
 
-pub line-grows : (number stamp : ℕ) (t : TargetState) (action : BenchAction) (next : TargetState) (told : List ℕ) → IsDoneBy number stamp t action next told → Grows stamp t next
-line-grows number stamp t (Raw cdb bytes) next told (answer, (is, text)) = answered t (line_order number stamp cdb bytes) answer next is
-line-grows number stamp t Lose next told (answer, (lost, text)) = one-more stamp t next _ (ap number_in lost.grown) (ap past_in lost.grown)
-line-grows number stamp t Reset next told (at, (reset, text)) = one-more stamp t next _ (ap number_in reset.grown) (ap past_in reset.grown)
-line-grows number stamp t DropNext next told (at, (dropping, text)) = one-more stamp t next _ (ap number_in dropping.grown) (ap past_in dropping.grown)
-line-grows number stamp t Fresh next told (fresh, text) = one-more stamp t next _ (ap number_in fresh.grown) (ap past_in fresh.grown)
+-- one that begins is no other owner's
+begun-other : (owner : ℕ) (w : Waiting) (ws : List Waiting) → w.owner ≢ owner → is_waited owner ws ≡ false → is_waited owner (ws ++ w ∷ []) ≡ false
+begun-other owner w [] other h = ap (λ b. is_some (cond b (Some w) None)) (ne_eqb w.owner owner other)
+begun-other owner w (v ∷ ws) other h = found-other (v.owner == owner) v (waiting_of owner ws) (waiting_of owner (ws ++ w ∷ [])) h (begun-other owner w ws other)
+
+-- nobody waits who didn't, where some wait no longer
+ended-other : (owner ended : ℕ) (ws : List Waiting) → is_waited owner ws ≡ false → is_waited owner (without_owner ended ws) ≡ false
+ended-other owner ended [] h = h
+ended-other owner ended (v ∷ ws) h = by_test (not (v.owner == ended)) (ended-other owner ended ws (not-further (v.owner == owner) v (waiting_of owner ws) h))
+  where
+    by_test : (b : Bool) → is_waited owner (without_owner ended ws) ≡ false → is_waited owner (cond b (v ∷ without_owner ended ws) (without_owner ended ws)) ≡ false
+    by_test true rest = found-other (v.owner == owner) v (waiting_of owner ws) (waiting_of owner (without_owner ended ws)) h (λ none. rest)
+    by_test false rest = rest
+
+later-than : (number owner : ℕ) → number < owner → number ≢ owner
+later-than number owner h e = omega (arith, h, e)
+
+-- ---- an order
+
+-- what an answer leaves of the entries; one that makes none is no request
+abbrev Past : ℕ → Answer → TargetState → TargetState → Type 0
+Past stamp said t next = ((next.past ≡ t.past) × (asks_further said ≡ false)) ⊎ ((event : Event) × (next.past ≡ next_entry t stamp event ∷ t.past))
+
+acted : (t : TargetState) (order : Order) (said : Answer) (next : TargetState) (command : Command) → IsActed true t order command said next → Past order.stamp said t next
+acted t order said next command (Does bytes done says) = inr (done.effect.event, ap past_in done.grown)
+acted t order said next command (Fails struck says) = inr (loss_here t 0, ap past_in struck.grown)
+
+sent : (t : TargetState) (order : Order) (said : Answer) (next : TargetState) (command : Command) (second count address : ℕ) →
+    IsSent true t order command second count address said next → Past order.stamp said t next
+sent t order said next command second count address (Sends delta done goes does after says) = inr (does.effect.event, ap past_in after ∙ ap past_in does.grown)
+sent t order said next command second count address (Drops delta drops does says) = inr (does.effect.event, ap past_in does.grown)
+sent t order said next command second count address (Loses struck says) = inr (loss_here t 0, ap past_in struck.grown)
+
+executed : (t : TargetState) (order : Order) (said : Answer) (next : TargetState) (command : Command) → IsExecuted true t order said next command → Past order.stamp said t next
+executed t order said next (ModeSense dbd pc page allocation) s = inl (ap past_in s.same, ap asks_further s.says)
+executed t order said next (ModeSelect pf sp list) s = inl (ap past_in s.same, ap asks_further s.says)
+executed t order said next (Read dpo fua lba count) s = acted t order said next (Read dpo fua lba count) s
+executed t order said next (Write dpo fua lba count) s = acted t order said next (Write dpo fua lba count) s
+executed t order said next (XdWrite dpo fua disable lba count) s = acted t order said next (XdWrite dpo fua disable lba count) s
+executed t order said next (XpWrite dpo fua lba count) s = acted t order said next (XpWrite dpo fua lba count) s
+executed t order said next (XdRead lba count) s = acted t order said next (XdRead lba count) s
+executed t order said next (XdWriteRead dpo fua disable lba count) s = acted t order said next (XdWriteRead dpo fua disable lba count) s
+executed t order said next (XdWriteExtended dpo fua disable lba second count address) s =
+    sent t order said next (XdWriteExtended dpo fua disable lba second count address) second count address s
+executed t order said next (Rebuild dpo fua intdata lba count list) s = acted t order said next (Rebuild dpo fua intdata lba count list) s
+executed t order said next (Regenerate dpo fua intdata lba count list) s = acted t order said next (Regenerate dpo fua intdata lba count list) s
+
+told-ends : (t : TargetState) (order : Order) (said : Answer) (next : TargetState) → early_answer t order ≡ Some said → Left t order said next → asks_further said ≡ false
+told-ends t order said next told (Ends ends waiting place) = ends
+told-ends t order said next told (Asks dpo fua disable lba second count address delta early is says waiting place) =
+    absurd (let no : None ≡ Some said = sym early ∙ told in cc no)
+
+answered-past : (t : TargetState) (order : Order) (said : Answer) (next : TargetState) → IsAnswered true t order said next → Past order.stamp said t next
+answered-past t order said next (WantsMemory early memory same) = inl (ap past_in same, ap asks_further memory)
+answered-past t order said next (Tells early same) = inl (ap past_in same, told-ends t order said next early (left-by true t order said next (Tells early same)))
+answered-past t order said next (Executes early by) = executed t order said next (command_in order.cdb) by
+
+left-place : (t : TargetState) (order : Order) (said : Answer) (next : TargetState) → Left t order said next → IsUnmoved t next
+left-place t order said next (Ends ends waiting place) = place
+left-place t order said next (Asks dpo fua disable lba second count address delta early is says waiting place) = place
+
+left-later : (number : ℕ) (t : TargetState) (order : Order) (said : Answer) (next : TargetState) → order.owner ≡ number → Left t order said next →
+    (owner : ℕ) → number < owner → is_waiting t owner ≡ false → is_waiting next owner ≡ false
+left-later number t order said next same (Ends ends waiting place) owner beyond none = ap (is_waited owner) waiting ∙ none
+left-later number t order said next same (Asks dpo fua disable lba second count address delta early is says waiting place) owner beyond none =
+    ap (is_waited owner) waiting
+    ∙ begun-other owner (record { owner = order.owner; made = next_name t order.stamp ∷ [] }) t.waiting (λ e. later-than number owner beyond (sym same ∙ e)) none
+
+only-past : (stamp : ℕ) (said : Answer) (t next : TargetState) → Past stamp said t next → (next.past ≡ t.past) ⊎ ((event : Event) × (next.past ≡ next_entry t stamp event ∷ t.past))
+only-past stamp said t next (inl same) = inl same.0
+only-past stamp said t next (inr more) = inr more
+
+pub answered-grows : (number : ℕ) (t : TargetState) (order : Order) (said : Answer) (next : TargetState) → order.owner ≡ number → IsAnswered true t order said next → Grows number order.stamp t next
+answered-grows number t order said next same is =
+    let left = left-by true t order said next is in
+    record {
+      place = left-place t order said next left;
+      past = only-past order.stamp said t next (answered-past t order said next is);
+      later = left-later number t order said next same left;
+    }
+
+-- a request is its owner's, and has seen the entry that was made
+abbrev pub Follows : ℕ → ℕ → Answer → Type 0
+Follows number stamp (Peer request made) = (request.order.owner ≡ number) × (request.order.stamp ≡ stamp)
+Follows number stamp (Good bytes made) = Unit {0}
+Follows number stamp (Check sense made loss) = Unit {0}
+Follows number stamp (Gone at life loss) = Unit {0}
+Follows number stamp (Shut at) = Unit {0}
+Follows number stamp Memory = Unit {0}
+
+pub plain-follows : (number stamp : ℕ) (said : Answer) → asks_further said ≡ false → Follows number stamp said
+plain-follows number stamp (Peer request made) ends = absurd (false≢true (sym ends))
+plain-follows number stamp (Good bytes made) ends = tt
+plain-follows number stamp (Check sense made loss) ends = tt
+plain-follows number stamp (Gone at life loss) ends = tt
+plain-follows number stamp (Shut at) ends = tt
+plain-follows number stamp Memory ends = tt
+
+left-follows : (number : ℕ) (t : TargetState) (order : Order) (said : Answer) (next : TargetState) → order.owner ≡ number → Left t order said next → Follows number (next_stamp t.past order.stamp) said
+left-follows number t order said next same (Ends ends waiting place) = plain-follows number (next_stamp t.past order.stamp) said ends
+left-follows number t order said next same (Asks dpo fua disable lba second count address delta early is says waiting place) =
+    subst (Follows number (next_stamp t.past order.stamp)) (sym says) (same, refl)
+
+-- an answer makes an entry that its request has seen, or is no request
+pub answered-follows : (number : ℕ) (t : TargetState) (order : Order) (said : Answer) (next : TargetState) → order.owner ≡ number → IsAnswered true t order said next →
+    (asks_further said ≡ false) ⊎ (((event : Event) × (next.past ≡ next_entry t order.stamp event ∷ t.past)) × Follows number (next_stamp t.past order.stamp) said)
+answered-follows number t order said next same is = by_past (answered-past t order said next is)
+  where
+    by_past : Past order.stamp said t next → (asks_further said ≡ false) ⊎ (((event : Event) × (next.past ≡ next_entry t order.stamp event ∷ t.past)) × Follows number (next_stamp t.past order.stamp) said)
+    by_past (inl still) = inl still.1
+    by_past (inr more) = inr (more, left-follows number t order said next same (left-by true t order said next is))
+
+-- ---- what is handed back
+
+first-ends : (o : Option Answer) (rows : List (Option Answer)) (answer : Answer) → ((a : Answer) → o ≡ Some a → asks_further a ≡ false) →
+    (first_answer rows ≡ Some answer → asks_further answer ≡ false) → first_answer (o ∷ rows) ≡ Some answer → asks_further answer ≡ false
+first-ends None rows answer own rest h = rest h
+first-ends (Some a) rows answer own rest h = own answer h
+
+mapped-ends : {A : Type 0} (f : A → Answer) (o : Option A) (a : Answer) → ((x : A) → asks_further (f x) ≡ false) → option_map f o ≡ Some a → asks_further a ≡ false
+mapped-ends f None a says h = absurd (let no : None ≡ Some a = h in cc no)
+mapped-ends f (Some x) a says h = ap asks_further (sym (same_Some (f x) a h)) ∙ says x
+
+ended-ends : (t : TargetState) (owner : ℕ) (answer : Answer) → ended_answer t owner ≡ Some answer → asks_further answer ≡ false
+ended-ends t owner answer =
+    first-ends (shut_row t owner) (gone_row t owner ∷ []) answer (λ a e. mapped-ends Shut (shut_at t.number owner t.past) a (λ x. refl) e)
+    (first-ends (gone_row t owner) [] answer (λ a e. mapped-ends (λ at. Gone at (life_of t.number t.past) (loss_for t owner)) (loss_of t.number t.past) a (λ x. refl) e)
+    (λ none. absurd (let no : None ≡ Some answer = none in cc no)))
+
+-- no answer to what is handed back is a further request
+pub resumed-ends : (t : TargetState) (owner : ℕ) (peer : PeerBack) (seen : ℕ) (answer : Answer) (next : TargetState) → IsResumed true t owner peer seen answer next → asks_further answer ≡ false
+resumed-ends t owner peer seen answer next (Ended none told same) = ended-ends t owner answer told
+resumed-ends t owner peer seen answer next (Folded w bytes made is good says after) = ap asks_further says
+resumed-ends t owner peer seen answer next (Refused w is failed says after) = ap asks_further says
+resumed-ends t owner peer seen answer next (LacksMemory bytes made is good says same) = ap asks_further says
+
+-- the target is as it was
+pub same-grows : (number stamp : ℕ) (t next : TargetState) → next ≡ t → Grows number stamp t next
+same-grows number stamp t next same = record {
+  place = record { number = ap (λ (u : TargetState). u.number) same; targets = ap (λ (u : TargetState). u.targets) same; block = ap (λ (u : TargetState). u.block) same };
+  past = inl (ap past_in same);
+  later = λ owner beyond none. ap (λ (u : TargetState). is_waiting u owner) same ∙ none;
+}
+
+-- the owner's command waits no longer
+over-grows : (number stamp : ℕ) (t : TargetState) (ended : ℕ) (next : TargetState) → next ≡ no_longer t ended → Grows number stamp t next
+over-grows number stamp t ended next after = record {
+  place = record { number = ap (λ (u : TargetState). u.number) after; targets = ap (λ (u : TargetState). u.targets) after; block = ap (λ (u : TargetState). u.block) after };
+  past = inl (ap past_in after);
+  later = λ owner beyond none. ap (λ (u : TargetState). is_waiting u owner) after ∙ ended-other owner ended t.waiting none;
+}
+
+pub resumed-grows : (number stamp : ℕ) (t : TargetState) (owner : ℕ) (peer : PeerBack) (seen : ℕ) (answer : Answer) (next : TargetState) →
+    IsResumed true t owner peer seen answer next → Grows number stamp t next
+resumed-grows number stamp t owner peer seen answer next (Ended none told same) = same-grows number stamp t next same
+resumed-grows number stamp t owner peer seen answer next (Folded w bytes made is good says after) = over-grows number stamp t owner next after
+resumed-grows number stamp t owner peer seen answer next (Refused w is failed says after) = over-grows number stamp t owner next after
+resumed-grows number stamp t owner peer seen answer next (LacksMemory bytes made is good says same) = same-grows number stamp t next same
+
+-- ---- what befalls a target
+
+-- a target with one entry more, at its place, for which nobody more waits
+pub one-grows : (number stamp : ℕ) (t next : TargetState) (event : Event) → next.number ≡ t.number → next.targets ≡ t.targets → next.block ≡ t.block →
+    next.past ≡ next_entry t stamp event ∷ t.past → next.waiting ≡ t.waiting → Grows number stamp t next
+one-grows number stamp t next event at many size past waiting = record {
+  place = record { number = at; targets = many; block = size };
+  past = inr (event, past);
+  later = λ owner beyond none. ap (is_waited owner) waiting ∙ none;
+}

@@ -1,47 +1,28 @@
--- The entries of a bench's targets have the stamps 1, 2, 3 and so on, whatever its lines do.
-use Rattle.std.proofs.Common.{◌≡◌, ◌⊎◌, ◌≤◌, ◌<◌, ◌+◌, ℕ, zero, suc, max, List, [], ◌∷◌, ◌++◌, map, reverse, length, get_or, set, Some, None, refl, sym, ap, subst, ◌∙◌, inl, inr, arith}
-use Rattle.std.specs.Prelude.{slice_get}
-use Rattle.std.specs.List.{AllByRecursion}
+-- What stands between lines goes on standing while targets come to something else, each by an entry or none.
+use Rattle.std.proofs.Common.{◌≡◌, ◌⊎◌, ◌≤◌, ◌<◌, ◌+◌, ℕ, zero, suc, max, List, [], ◌∷◌, ◌++◌, map, reverse, length, get_or, Some, None, slice_get, slice_set, refl, sym, ap, subst, ◌∙◌, inl, inr, arith}
 use Rattle.std.proofs.lemmas.Option.{same_Some, slice_get_within}
 use Rattle.std.proofs.lemmas.List.{length-map, reverse-append, length-reverse}
 use Rattle.array_journal.specs.declared.entry.Entry.{Entry}
 use Rattle.array_journal.specs.declared.event.Event.{Event}
 use Rattle.array_journal.specs.Calm.{IsStamped}
-use Rattle.array_journal.specs.Merge.{joined, Rises, AreOfLocks}
-use Rattle.array_journal.specs.OneJournal.{by_name, journal_of, AreKept}
-use Rattle.array_journal.proofs.runs.OneJournal.{with_entry, kept-more, journal-more, length-journal, all-first, all-rest}
-use Rattle.host_scripts.specs.declared.bench.Bench.{Bench}
-use Rattle.host_scripts.specs.declared.bench.BenchLine.{BenchLine}
+use Rattle.array_journal.specs.OneJournal.{journal_of, AreKept}
+use Rattle.array_journal.proofs.runs.OneJournal.{with_entry, kept-more, journal-more, length-journal}
 use Rattle.xor_target.specs.Logs.{last_stamp}
 use Rattle.xor_target.specs.State.{TargetState}
 use Rattle.xor_target.specs.Answers.{next_entry}
-use Rattle.array_journal.specs.Lists.{numbers}
-use Rattle.bench_runs.specs.BenchRuns.{BenchState, first_state, first_target, lists_of, IsStep, AreDone}
-use Rattle.bench_runs.proofs.Grown.{Grows, line-grows}
-
--- ---- a target of a list
-
--- the numbers of targets are their places
-abbrev pub AreInOrder : ℕ → List TargetState → Type 0
-AreInOrder n [] = Unit {0}
-AreInOrder n (t ∷ ts) = (t.number ≡ n) × AreInOrder (suc n) ts
+use Rattle.xor_target.specs.Rigs.{Turns}
+use Rattle.xor_target.proofs.RigRows.{row-kept, idle-kept}
+use Rattle.bench_runs.specs.BenchRuns.{newest_stamp, lists_of}
+use Rattle.bench_runs.specs.Ready.{IsReady}
+use Rattle.bench_runs.proofs.Grown.{Grows}
 
 abbrev entries_in : TargetState → List Entry
 entries_in t = reverse t.past
 
-number-there : (n : ℕ) (ts : List TargetState) (i : ℕ) (t : TargetState) → AreInOrder n ts → slice_get ts i ≡ Some t → t.number ≡ n + i
-number-there n [] i t order there = absurd (let no : None ≡ Some t = there in cc no)
-number-there n (x ∷ ts) zero t order there = let same : x ≡ t = same_Some x t there in ap (λ (s : TargetState). s.number) (sym same) ∙ order.0 ∙ omega arith
-number-there n (x ∷ ts) (suc i) t order there = number-there (suc n) ts i t order.1 there ∙ omega arith
-
-in-order-still : (n : ℕ) (ts : List TargetState) (i : ℕ) (t next : TargetState) → AreInOrder n ts → slice_get ts i ≡ Some t → next.number ≡ t.number → AreInOrder n (set ts i next)
-in-order-still n [] i t next order there same = order
-in-order-still n (x ∷ ts) zero t next order there same =
-    let is : x ≡ t = same_Some x t there in (same ∙ ap (λ (s : TargetState). s.number) (sym is) ∙ order.0, order.1)
-in-order-still n (x ∷ ts) (suc i) t next order there same = (order.0, in-order-still (suc n) ts i t next order.1 there same)
+-- ---- the lists of entries
 
 -- a target with the entries that it had
-lists-still : (ts : List TargetState) (i : ℕ) (t next : TargetState) → slice_get ts i ≡ Some t → entries_in next ≡ entries_in t → map entries_in (set ts i next) ≡ map entries_in ts
+lists-still : (ts : List TargetState) (i : ℕ) (t next : TargetState) → slice_get ts i ≡ Some t → entries_in next ≡ entries_in t → map entries_in (slice_set ts i next) ≡ map entries_in ts
 lists-still [] i t next there same = refl
 lists-still (x ∷ ts) zero t next there same =
     let is : x ≡ t = same_Some x t there in ap (λ (es : List Entry). es ∷ map entries_in ts) (same ∙ ap entries_in (sym is))
@@ -49,128 +30,125 @@ lists-still (x ∷ ts) (suc i) t next there same = ap (λ (ls : List (List Entry
 
 -- a target with one entry more
 lists-more : (ts : List TargetState) (i : ℕ) (t next : TargetState) (e : Entry) → slice_get ts i ≡ Some t → entries_in next ≡ entries_in t ++ e ∷ [] →
-    map entries_in (set ts i next) ≡ set (map entries_in ts) i (get_or (map entries_in ts) i [] ++ e ∷ [])
+    map entries_in (slice_set ts i next) ≡ slice_set (map entries_in ts) i (get_or (map entries_in ts) i [] ++ e ∷ [])
 lists-more [] i t next e there more = absurd (let no : None ≡ Some t = there in cc no)
 lists-more (x ∷ ts) zero t next e there more =
     let is : x ≡ t = same_Some x t there in ap (λ (es : List Entry). es ∷ map entries_in ts) (more ∙ ap (λ (s : TargetState). entries_in s ++ e ∷ []) (sym is))
 lists-more (x ∷ ts) (suc i) t next e there more = ap (λ (ls : List (List Entry)). entries_in x ∷ ls) (lists-more ts i t next e there more)
 
--- what holds of all entries holds of those of one target
-all-there : (P : Entry → Type 0) (ts : List TargetState) (i : ℕ) (t : TargetState) → slice_get ts i ≡ Some t → AllByRecursion P (joined (map entries_in ts)) → AllByRecursion P (entries_in t)
-all-there P [] i t there all = absurd (let no : None ≡ Some t = there in cc no)
-all-there P (x ∷ ts) zero t there all =
-    subst (λ (s : TargetState). AllByRecursion P (entries_in s)) (same_Some x t there) (all-first P (entries_in x) (joined (map entries_in ts)) all)
-all-there P (x ∷ ts) (suc i) t there all = all-there P ts i t there (all-rest P (entries_in x) (joined (map entries_in ts)) all)
-
--- no stamp of a target is above that of all
-newest-below : (stamp : ℕ) (past : List Entry) → AllByRecursion (λ (e : Entry). e.stamp ≤ stamp) (reverse past) → last_stamp past ≤ stamp
-newest-below stamp [] all = omega arith
-newest-below stamp (e ∷ past) all =
-    let Below : List Entry → Type 0 = λ es. AllByRecursion (λ (x : Entry). x.stamp ≤ stamp) es in
-    (all-rest (λ (x : Entry). x.stamp ≤ stamp) (reverse past) (e ∷ []) (subst Below (reverse-append (e ∷ []) past) all)).0
-
-inside-lists : (ts : List TargetState) (i : ℕ) (t : TargetState) → slice_get ts i ≡ Some t → suc i < length ([] ∷ map entries_in ts)
+inside-lists : (ts : List TargetState) (i : ℕ) (t : TargetState) → slice_get ts i ≡ Some t → suc i < length (lists_of ts)
 inside-lists ts i t there = omega (arith, slice_get_within ts i t there, length-map ts entries_in)
 
-max-left : (m n : ℕ) → n ≤ m → max m n ≡ m
-max-left m n h = omega (arith, h)
+-- ---- the greatest stamp
 
-max-right : (m n : ℕ) → n ≡ m + 1 → max m n ≡ m + 1
-max-right m n h = omega (arith, h)
+max-above : (a b c : ℕ) → c ≤ b → c ≤ max a b
+max-above a b c h = omega (arith, h)
+
+max-first : (a b s : ℕ) → b ≤ s → a ≡ s + 1 → max a b ≡ s + 1
+max-first a b s below next = omega (arith, below, next)
+
+max-last : (a b s : ℕ) → a ≤ s → b ≡ s + 1 → max a b ≡ s + 1
+max-last a b s below next = omega (arith, below, next)
+
+first-below : (a b s : ℕ) → max a b ≤ s → a ≤ s
+first-below a b s h = omega (arith, h)
+
+rest-below : (a b s : ℕ) → max a b ≤ s → b ≤ s
+rest-below a b s h = omega (arith, h)
 
 next-above : (last stamp : ℕ) → last ≤ stamp → max last stamp + 1 ≡ stamp + 1
 next-above last stamp h = omega (arith, h)
 
--- ---- the whole bench
+-- no target's is above it
+pub newest-there : (ts : List TargetState) (i : ℕ) (t : TargetState) → slice_get ts i ≡ Some t → last_stamp t.past ≤ newest_stamp ts
+newest-there [] i t there = absurd (let no : None ≡ Some t = there in cc no)
+newest-there (x ∷ ts) zero t there =
+    subst (λ (s : TargetState). last_stamp s.past ≤ max (last_stamp x.past) (newest_stamp ts)) (same_Some x t there) (first-below (last_stamp x.past) (newest_stamp ts) (max (last_stamp x.past) (newest_stamp ts)) (omega arith))
+newest-there (x ∷ ts) (suc i) t there = max-above (last_stamp x.past) (newest_stamp ts) (last_stamp t.past) (newest-there ts i t there)
 
--- targets stand in the order of their numbers, and their entries have the stamps 1, 2, 3 and so on
-pub record IsSound (b : BenchState) : Type 0 where
-  pub order : AreInOrder 0 b.targets
-  pub kept : AreKept b.stamp (lists_of b)
-  pub stamped : IsStamped (reverse (journal_of (lists_of b)))
+newest-still : (ts : List TargetState) (i : ℕ) (t next : TargetState) → slice_get ts i ≡ Some t → next.past ≡ t.past → newest_stamp (slice_set ts i next) ≡ newest_stamp ts
+newest-still [] i t next there same = refl
+newest-still (x ∷ ts) zero t next there same =
+    let is : x ≡ t = same_Some x t there in
+    ap (λ (es : List Entry). max (last_stamp es) (newest_stamp ts)) (same ∙ ap (λ (s : TargetState). s.past) (sym is))
+newest-still (x ∷ ts) (suc i) t next there same = ap (max (last_stamp x.past)) (newest-still ts i t next there same)
 
-first-order : (bench : Bench) (n count : ℕ) → AreInOrder n (map (first_target bench) (numbers n count))
-first-order bench n zero = tt
-first-order bench n (suc count) = (refl, first-order bench (suc n) count)
+newest-more : (ts : List TargetState) (i : ℕ) (t next : TargetState) (s : ℕ) → slice_get ts i ≡ Some t → newest_stamp ts ≤ s → last_stamp next.past ≡ s + 1 → newest_stamp (slice_set ts i next) ≡ s + 1
+newest-more [] i t next s there below next_is = absurd (let no : None ≡ Some t = there in cc no)
+newest-more (x ∷ ts) zero t next s there below next_is =
+    max-first (last_stamp next.past) (newest_stamp ts) s (rest-below (last_stamp x.past) (newest_stamp ts) s below) next_is
+newest-more (x ∷ ts) (suc i) t next s there below next_is =
+    max-last (last_stamp x.past) (newest_stamp (slice_set ts i next)) s (first-below (last_stamp x.past) (newest_stamp ts) s below)
+    (newest-more ts i t next s there (rest-below (last_stamp x.past) (newest_stamp ts) s below) next_is)
 
-none-joined : (bench : Bench) (n count : ℕ) → joined (map entries_in (map (first_target bench) (numbers n count))) ≡ []
-none-joined bench n zero = refl
-none-joined bench n (suc count) = none-joined bench (suc n) count
-
-none-of_locks : (bench : Bench) (n count lock : ℕ) → AreOfLocks lock (map entries_in (map (first_target bench) (numbers n count)))
-none-of_locks bench n zero lock = tt
-none-of_locks bench n (suc count) lock = ((tt, tt), none-of_locks bench (suc n) count (suc lock))
-
-pub first-sound : (bench : Bench) → IsSound (first_state bench)
-unfolding journal_of
-first-sound bench =
-    let none : joined (lists_of (first_state bench)) ≡ [] = none-joined bench 0 bench.targets in
-    record {
-      order = first-order bench 0 bench.targets;
-      kept = record {
-        of_locks = ((tt, tt), none-of_locks bench 0 bench.targets 1);
-        rises = subst (λ (es : List Entry). Rises (by_name es)) (sym none) tt;
-        counted = ap length (sym none);
-        up_to = subst (λ (es : List Entry). AllByRecursion (λ (e : Entry). e.stamp ≤ 0) es) (sym none) tt;
-      };
-      stamped = subst (λ (es : List Entry). IsStamped (reverse (by_name es))) (sym none) tt;
-    }
+-- ---- a target that came to something else
 
 -- an entry at the end of a journal
 stamped-more : (journal : List Entry) (e : Entry) → IsStamped (reverse journal) → e.stamp ≡ suc (length journal) → IsStamped (reverse (journal ++ e ∷ []))
 stamped-more journal e stamped next =
     subst IsStamped (sym (reverse-append journal (e ∷ []))) (next ∙ ap suc (sym (length-reverse journal)), stamped)
 
-module _ (number : ℕ) (b : BenchState) (l : BenchLine) (after : BenchState) (told : List ℕ) (sound : IsSound b) (step : IsStep number b l after told) where
-  grows : Grows b.stamp step.target step.next
-  grows = line-grows number b.stamp step.target l.action step.next told step.done
+-- the entries of all are kept
+record IsKept (ts : List TargetState) : Type 0 where
+  kept : AreKept (newest_stamp ts) (lists_of ts)
+  stamped : IsStamped (reverse (journal_of (lists_of ts)))
 
-  below : last_stamp step.target.past ≤ b.stamp
-  below = newest-below b.stamp step.target.past (all-there (λ (e : Entry). e.stamp ≤ b.stamp) b.targets l.target step.target step.stands sound.kept.up_to)
-
-  order : AreInOrder 0 (set b.targets l.target step.next)
-  order = in-order-still 0 b.targets l.target step.target step.next sound.order step.stands grows.number
+module _ (ts : List TargetState) (i : ℕ) (t next : TargetState) (there : slice_get ts i ≡ Some t) where
+  abbrev grown : List TargetState
+  grown = slice_set ts i next
 
   -- no entry was made
-  still : step.next.past ≡ step.target.past → IsSound (record { targets = set b.targets l.target step.next; stamp = max b.stamp (last_stamp step.next.past) })
-  still same =
-      let lists : [] ∷ map entries_in (set b.targets l.target step.next) ≡ lists_of b =
-      ap (λ (ls : List (List Entry)). [] ∷ ls) (lists-still b.targets l.target step.target step.next step.stands (ap reverse same)) in
-      let stamp : max b.stamp (last_stamp step.next.past) ≡ b.stamp = ap (λ (es : List Entry). max b.stamp (last_stamp es)) same ∙ max-left b.stamp (last_stamp step.target.past) below in
+  kept-still : IsKept ts → next.past ≡ t.past → IsKept grown
+  kept-still k same =
+      let lists : lists_of grown ≡ lists_of ts = ap (λ (ls : List (List Entry)). [] ∷ ls) (lists-still ts i t next there (ap reverse same)) in
+      let stamp : newest_stamp grown ≡ newest_stamp ts = newest-still ts i t next there same in
       record {
-        order = order;
-        kept = subst (λ (n : ℕ). AreKept n ([] ∷ map entries_in (set b.targets l.target step.next))) (sym stamp) (subst (AreKept b.stamp) (sym lists) sound.kept);
-        stamped = subst (λ (ls : List (List Entry)). IsStamped (reverse (journal_of ls))) (sym lists) sound.stamped;
+        kept = subst (λ (n : ℕ). AreKept n (lists_of grown)) (sym stamp) (subst (AreKept (newest_stamp ts)) (sym lists) k.kept);
+        stamped = subst (λ (ls : List (List Entry)). IsStamped (reverse (journal_of ls))) (sym lists) k.stamped;
       }
+
+  -- the stamp of the next entry, and then it is the greatest
+  pub entry-next : (event : Event) → (next_entry t (newest_stamp ts) event).stamp ≡ newest_stamp ts + 1
+  entry-next event = next-above (last_stamp t.past) (newest_stamp ts) (newest-there ts i t there)
+
+  pub newest-next : (event : Event) → next.past ≡ next_entry t (newest_stamp ts) event ∷ t.past → newest_stamp grown ≡ newest_stamp ts + 1
+  newest-next event past =
+      let last : last_stamp next.past ≡ newest_stamp ts + 1 = ap last_stamp past ∙ entry-next event in
+      newest-more ts i t next (newest_stamp ts) there (omega arith) last
 
   -- one was
-  more : (event : Event) → step.next.past ≡ next_entry step.target b.stamp event ∷ step.target.past → IsSound (record { targets = set b.targets l.target step.next; stamp = max b.stamp (last_stamp step.next.past) })
-  more event grown =
-      let e : Entry = next_entry step.target b.stamp event in
-      let next : e.stamp ≡ b.stamp + 1 = next-above (last_stamp step.target.past) b.stamp below in
-      let lists : [] ∷ map entries_in (set b.targets l.target step.next) ≡ with_entry (lists_of b) (suc l.target) e =
-      ap (λ (ls : List (List Entry)). [] ∷ ls) (lists-more b.targets l.target step.target step.next e step.stands (ap reverse grown ∙ reverse-append (e ∷ []) step.target.past)) in
-      let stamp : max b.stamp (last_stamp step.next.past) ≡ b.stamp + 1 =
-      ap (λ (es : List Entry). max b.stamp (last_stamp es)) grown ∙ max-right b.stamp e.stamp next in
-      let inside : suc l.target < length (lists_of b) = inside-lists b.targets l.target step.target step.stands in
-      let at : e.lock ≡ suc l.target = ap (λ n. n + 1) (number-there 0 b.targets l.target step.target sound.order step.stands) ∙ omega arith in
+  kept-one : IsKept ts → t.number ≡ i → (event : Event) → next.past ≡ next_entry t (newest_stamp ts) event ∷ t.past → IsKept grown
+  kept-one k at event past =
+      let e : Entry = next_entry t (newest_stamp ts) event in
+      let lists : lists_of grown ≡ with_entry (lists_of ts) (suc i) e =
+      ap (λ (ls : List (List Entry)). [] ∷ ls) (lists-more ts i t next e there (ap reverse past ∙ reverse-append (e ∷ []) t.past)) in
+      let inside : suc i < length (lists_of ts) = inside-lists ts i t there in
+      let lock : e.lock ≡ suc i = ap (λ n. n + 1) at ∙ omega arith in
+      let long : newest_stamp ts + 1 ≡ suc (length (journal_of (lists_of ts))) = omega (arith, length-journal (newest_stamp ts) (lists_of ts) k.kept) in
       record {
-        order = order;
-        kept = subst (λ (n : ℕ). AreKept n ([] ∷ map entries_in (set b.targets l.target step.next))) (sym stamp)
-            (subst (AreKept (b.stamp + 1)) (sym lists) (kept-more b.stamp (lists_of b) (suc l.target) e sound.kept inside next at));
+        kept = subst (λ (n : ℕ). AreKept n (lists_of grown)) (sym (newest-next event past))
+            (subst (AreKept (newest_stamp ts + 1)) (sym lists) (kept-more (newest_stamp ts) (lists_of ts) (suc i) e k.kept inside (entry-next event) lock));
         stamped = subst (λ (ls : List (List Entry)). IsStamped (reverse (journal_of ls))) (sym lists)
-            (subst (λ (es : List Entry). IsStamped (reverse es)) (sym (journal-more b.stamp (lists_of b) (suc l.target) e sound.kept inside next))
-            (stamped-more (journal_of (lists_of b)) e sound.stamped (next ∙ omega (arith, length-journal b.stamp (lists_of b) sound.kept))));
+            (subst (λ (es : List Entry). IsStamped (reverse es)) (sym (journal-more (newest_stamp ts) (lists_of ts) (suc i) e k.kept inside (entry-next event)))
+            (stamped-more (journal_of (lists_of ts)) e k.stamped (entry-next event ∙ long)));
       }
 
-  pub step-sound : IsSound after
-  step-sound = subst IsSound (sym step.moved) (by_growth grows.past)
-    where
-      by_growth : (step.next.past ≡ step.target.past) ⊎ ((event : Event) × (step.next.past ≡ next_entry step.target b.stamp event ∷ step.target.past)) → IsSound (record { targets = set b.targets l.target step.next; stamp = max b.stamp (last_stamp step.next.past) })
-      by_growth (inl same) = still same
-      by_growth (inr one) = more one.0 one.1
+  kept-grown : IsKept ts → t.number ≡ i → (next.past ≡ t.past) ⊎ ((event : Event) × (next.past ≡ next_entry t (newest_stamp ts) event ∷ t.past)) → IsKept grown
+  kept-grown k at (inl same) = kept-still k same
+  kept-grown k at (inr more) = kept-one k at more.0 more.1
 
-pub all-sound : (number : ℕ) (b : BenchState) (lines : List BenchLine) (after : BenchState) (text : List ℕ) → IsSound b → AreDone number b lines after text → IsSound after
-all-sound number b [] after text sound done = subst IsSound (sym done.0) sound
-all-sound number b (l ∷ lines) after text sound (next, (told, (rest, (step, done, whole)))) =
-    all-sound (suc number) next lines after rest (step-sound number b l next told sound step) done
+-- a target that grew leaves all as it is to stand before the next line
+pub ready-turn : (number k : ℕ) (comes_to : TargetState → TargetState → Type 0) (ts after : List TargetState) → IsReady (number + 1) ts → (turn : Turns k comes_to ts after) →
+    Grows number (newest_stamp ts) turn.before turn.now → IsReady (number + 1) after
+ready-turn number k comes_to ts after ready turn grows =
+    let at : turn.before.number ≡ k = (ready.row.placed k turn.before turn.stands).number in
+    let whole : IsKept (slice_set ts k turn.now) = kept-grown ts k turn.before turn.now turn.stands (record { kept = ready.kept; stamped = ready.stamped }) at grows.past in
+    let now : IsKept after = subst IsKept (sym turn.others) whole in
+    record {
+      row = row-kept k comes_to ts after ready.row turn grows.place;
+      idle = λ owner beyond.
+          let later : number < owner = omega (arith, beyond) in
+          idle-kept k owner comes_to ts after (λ j t there other. ready.idle owner beyond j t there) turn (grows.later owner later (ready.idle owner beyond k turn.before turn.stands));
+      kept = now.kept;
+      stamped = now.stamped;
+    }

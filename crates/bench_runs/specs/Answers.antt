@@ -6,7 +6,7 @@ use Rattle.answer_text.specs.Answers.{sense_check, check_text, good_text}
 use Rattle.xor_target.specs.declared.answer.Answer.{Answer}
 use Rattle.xor_target.specs.declared.answer.Answer.TheVariants.{Good, Check, Gone, Shut, Peer, Memory}
 
--- the answer to a command; no line shuts an owner, so no line meets a shut, and no command asks a peer
+-- the answer to a command; no line shuts an owner, so no line meets a shut, and a request is carried before anything is told
 abbrev pub answer_text : Answer → Option (List ℕ)
 answer_text (Good bytes made) = Some (good_text bytes)
 answer_text (Check sense made loss) = Some (check_text (sense_check sense))

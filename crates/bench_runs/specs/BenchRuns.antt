@@ -1,5 +1,5 @@
--- What the lines of a bench do, one after the other, each at its target at once.
-use Rattle.std.specs.Prelude.{◌≡◌, ◌*◌, ◌++◌, ℕ, suc, max, true, false, List, [], ◌∷◌, map, reverse, set, slice_get, Some}
+-- What the lines of a bench do, one after the other, each at its target at once, with the requests that come of it.
+use Rattle.std.specs.Prelude.{◌≡◌, ◌*◌, ◌++◌, ℕ, suc, max, true, false, List, [], ◌∷◌, map, reverse, Some}
 use Rattle.blocks_core.specs.Xor.{zeros}
 use Rattle.xor_mode_page.specs.declared.pages.XorPage.{XorPage}
 use Rattle.array_journal.specs.declared.at.At.{At}
@@ -16,8 +16,8 @@ use Rattle.xor_target.specs.declared.answer.Answer.{Answer}
 use Rattle.xor_target.specs.declared.answer.GoneAt.{GoneAt}
 use Rattle.xor_target.specs.Logs.{last_stamp}
 use Rattle.xor_target.specs.State.{TargetState}
-use Rattle.xor_target.specs.Answers.{IsAnswered}
 use Rattle.xor_target.specs.Befalls.{IsLost, IsReset, IsDropping, IsFresh}
+use Rattle.xor_target.specs.Rigs.{Turns, IsRigAnswer}
 use Rattle.bench_runs.specs.Answers.{answer_text, done_text, numbered}
 
 -- ---- before the first line
@@ -40,15 +40,17 @@ first_target bench number = record {
   held = [];
   contents = Some (zeros (bench.rows * bench.block));
   faults = 0;
+  waiting = [];
 }
 
--- the targets of a bench, and the greatest stamp that an entry of them has
-pub record BenchState : Type 0 where
-  pub targets : List TargetState
-  pub stamp : ℕ
+-- the targets of a bench before its first line
+abbrev pub first_targets : Bench → List TargetState
+first_targets bench = map (first_target bench) (numbers 0 bench.targets)
 
-abbrev pub first_state : Bench → BenchState
-first_state bench = record { targets = map (first_target bench) (numbers 0 bench.targets); stamp = 0 }
+-- the greatest stamp that an entry of some targets has, 0 where there is none
+abbrev pub newest_stamp : List TargetState → ℕ
+newest_stamp [] = 0
+newest_stamp (t ∷ ts) = max (last_stamp t.past) (newest_stamp ts)
 
 -- ---- one line
 
@@ -60,40 +62,37 @@ no_entry = record { stamp = 0; lock = 0 }
 abbrev pub line_order : ℕ → ℕ → List ℕ → List ℕ → Order
 line_order number stamp cdb bytes = record { owner = number; opened = no_entry; names = []; stamp = stamp; cdb = cdb; bytes = bytes }
 
--- A target does what the line with a number asks, and it is told so. Its medium is one that never fails.
-abbrev pub IsDoneBy : ℕ → ℕ → TargetState → BenchAction → TargetState → List ℕ → Type 0
-IsDoneBy number stamp t (Raw cdb bytes) after told =
-    (answer : Answer) × (IsAnswered true t (line_order number stamp cdb bytes) answer after × (answer_text answer ≡ Some told))
-IsDoneBy number stamp t Lose after told = (answer : GoneAt) × (IsLost t number stamp answer after × (told ≡ done_text))
-IsDoneBy number stamp t Reset after told = (at : At) × (IsReset t number stamp at after × (told ≡ done_text))
-IsDoneBy number stamp t DropNext after told = (at : At) × (IsDropping t number stamp at after × (told ≡ done_text))
-IsDoneBy number stamp t Fresh after told = IsFresh t number no_entry stamp after × (told ≡ done_text)
+-- What is asked of target k by the line with a number is done, and this is told of it. A command is done by the row, which carries
+-- the requests that come of it; the rest is done by the target alone. No medium ever fails.
+abbrev pub IsDoneBy : ℕ → List TargetState → ℕ → BenchAction → List TargetState → List ℕ → Type 0
+IsDoneBy number ts k (Raw cdb bytes) after told =
+    (answer : Answer) × (IsRigAnswer true ts k (line_order number (newest_stamp ts) cdb bytes) answer after × (answer_text answer ≡ Some told))
+IsDoneBy number ts k Lose after told = Turns k (λ t next. (answer : GoneAt) × IsLost t number (newest_stamp ts) answer next) ts after × (told ≡ done_text)
+IsDoneBy number ts k Reset after told = Turns k (λ t next. (at : At) × IsReset t number (newest_stamp ts) at next) ts after × (told ≡ done_text)
+IsDoneBy number ts k DropNext after told = Turns k (λ t next. (at : At) × IsDropping t number (newest_stamp ts) at next) ts after × (told ≡ done_text)
+IsDoneBy number ts k Fresh after told = Turns k (λ t next. IsFresh t number no_entry (newest_stamp ts) next) ts after × (told ≡ done_text)
 
--- the line with a number is done by its target, and by no other
-pub record IsStep (number : ℕ) (b : BenchState) (l : BenchLine) (after : BenchState) (told : List ℕ) : Type 0 where
-  pub target : TargetState
-  pub next : TargetState
-  pub stands : slice_get b.targets l.target ≡ Some target
-  pub done : IsDoneBy number b.stamp target l.action next told
-  pub moved : after ≡ record { targets = set b.targets l.target next; stamp = max b.stamp (last_stamp next.past) }
+-- the line with a number is done at the target that it names
+abbrev pub IsStep : ℕ → List TargetState → BenchLine → List TargetState → List ℕ → Type 0
+IsStep number ts l after told = IsDoneBy number ts l.target l.action after told
 
 -- ---- all lines
 
 -- the lines, numbered from this one on, are done in turn; a line of text for each
-abbrev pub AreDone : ℕ → BenchState → List BenchLine → BenchState → List ℕ → Type 0
-AreDone number b [] after text = (after ≡ b) × (text ≡ [])
-AreDone number b (l ∷ lines) after text =
-    (next : BenchState) × ((told : List ℕ) × ((rest : List ℕ) ×
-    (IsStep number b l next told × AreDone (suc number) next lines after rest × (text ≡ numbered number told ++ rest))))
+abbrev pub AreDone : ℕ → List TargetState → List BenchLine → List TargetState → List ℕ → Type 0
+AreDone number ts [] after text = (after ≡ ts) × (text ≡ [])
+AreDone number ts (l ∷ lines) after text =
+    (next : List TargetState) × ((told : List ℕ) × ((rest : List ℕ) ×
+    (IsStep number ts l next told × AreDone (suc number) next lines after rest × (text ≡ numbered number told ++ rest))))
 
 -- the entries of each target, the oldest first, behind those of the book, which are none
-abbrev pub lists_of : BenchState → List (List Entry)
-lists_of b = [] ∷ map (λ t. reverse t.past) b.targets
+abbrev pub lists_of : List TargetState → List (List Entry)
+lists_of ts = [] ∷ map (λ t. reverse t.past) ts
 
 -- A run of a bench: the text of its lines, and the entries of all targets in the order of their stamps, which are 1, 2, 3
 -- and so on.
 pub record IsBenchRun (bench : Bench) (journal : List Entry) (text : List ℕ) : Type 0 where
-  pub after : BenchState
-  pub done : AreDone 1 (first_state bench) bench.lines after text
+  pub after : List TargetState
+  pub done : AreDone 1 (first_targets bench) bench.lines after text
   pub merged : journal ≡ journal_of (lists_of after)
   pub stamped : IsStamped (reverse journal)

@@ -1,3 +1,3 @@
 pub mod Answers
 pub mod BenchRuns
-pub mod Targets
+pub mod Ready

@@ -15,7 +15,7 @@ pub fn push_answer(text: &mut Bytes, answer: &Answer) -> Result<(), Memory>
         Answer::Good { bytes, .. } => push_good(text, bytes.as_slice()),
         Answer::Check { sense, .. } => push_check(text, &check_of(sense)),
         Answer::Gone { .. } => text.push_slice(b"gone"),
-        // No line shuts an owner and no command asks a peer, so of these three only want of memory comes.
+        // No line shuts an owner, and requests were carried, so of these three only want of memory comes.
         Answer::Shut { .. } | Answer::Peer { .. } | Answer::Memory => Err(Memory),
     }
 }

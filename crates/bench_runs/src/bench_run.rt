@@ -2,7 +2,7 @@ ghost use Rattle.std.specs.Prelude.{◌<◌, ◌^◌, length, IfOk};
 ghost use Rattle.host_scripts.specs.Benches.{IsBench};
 ghost use Rattle.bench_runs.specs.BenchRuns.{IsBenchRun};
 
-use crate::bench_targets::BenchTargets;
+use crate::rows::{first_row, into_journal, serve_all};
 use array_journal::Journal;
 use blocks_core::{Bytes, Memory};
 use host_scripts::Bench;
@@ -21,8 +21,8 @@ pub fn run_bench(alloc: Global, bench: &Bench) -> Result<BenchRun, Memory>
     requires fewer { length bench.now.lines < 2 ^ 32 }
     ensures { IfOk result (λ run. IsBenchRun bench.now run.journal run.text) }
 {
-    let mut targets = BenchTargets::new(alloc, bench)?;
-    let text = targets.serve_all(alloc, bench.lines.as_slice())?;
-    let journal = targets.into_journal(alloc)?;
+    let mut row = first_row(alloc, bench)?;
+    let text = serve_all(alloc, &mut row, bench.lines.as_slice())?;
+    let journal = into_journal(alloc, row)?;
     Ok(BenchRun { text, journal })
 }

@@ -1,17 +1,18 @@
 //! One line at its target.
 
-ghost use Rattle.std.specs.Prelude.{◌≡◌, ◌≤◌, ◌++◌, ℕ, List, OnOk, IfOk};
+ghost use Rattle.std.specs.Prelude.{◌≡◌, ◌<◌, ◌≤◌, ◌++◌, ℕ, List, length, OnOk, IfOk};
 ghost use Rattle.xor_target.specs.Befalls.{IsFresh};
+ghost use Rattle.xor_target.specs.Rigs.{IsIdle};
 ghost use Rattle.bench_runs.specs.Answers.{done_text};
-ghost use Rattle.bench_runs.specs.BenchRuns.{IsDoneBy, line_order, no_entry};
+ghost use Rattle.bench_runs.specs.BenchRuns.{IsStep, newest_stamp, line_order, no_entry};
 
 use crate::answers::{push_answer, push_done};
 use array_journal::{At, Names};
 use blocks_core::{Bytes, Memory};
-use host_scripts::BenchAction;
+use host_scripts::{BenchAction, BenchLine};
 use sector_media::MemoryMedium;
 use std::alloc::Global;
-use xor_target::{Answer, Order, Target};
+use xor_target::{Answer, Order, Rig, Target};
 
 /// Which line asks: its number, and the greatest stamp so far.
 #[derive(Clone, Copy, Debug)]
@@ -56,32 +57,36 @@ fn renew(
 /// Does what a line asks and tells it.
 pub fn act(
     alloc: Global,
-    target: &mut Target<MemoryMedium>,
+    row: &mut Rig<MemoryMedium>,
     text: &mut Bytes,
     asker: Asker,
-    action: &BenchAction,
+    line: &BenchLine,
 ) -> Result<(), Memory>
-    requires { 1 ≤ asker.number }
-    ensures { OnOk result ((told : List ℕ) × (IsDoneBy asker.number asker.stamp target.old action.now target.new told × (text.new ≡ text.old ++ told))) }
+    requires number { 1 ≤ asker.number }
+    requires stamp { asker.stamp ≡ newest_stamp row.old }
+    requires target { line.now.target < length row.old }
+    requires idle { IsIdle asker.number row.old }
+    ensures { OnOk result ((told : List ℕ) × (IsStep asker.number row.old line.now row.new told × (text.new ≡ text.old ++ told))) }
 {
     let Asker { number, stamp } = asker;
-    match action {
+    let place = line.target as usize;
+    match &line.action {
         BenchAction::Raw { cdb, bytes } => {
             let order = order_of(alloc, asker, cdb, bytes)?;
-            push_answer(text, &target.execute(alloc, &order))
+            push_answer(text, &row.run(alloc, line.target, &order))
         }
         BenchAction::Lose => {
-            target.lose(alloc, number, stamp)?;
+            row.targets()[place].lose(alloc, number, stamp)?;
             push_done(text)
         }
         BenchAction::Reset => {
-            target.wipe(alloc, number, stamp)?;
+            row.targets()[place].wipe(alloc, number, stamp)?;
             push_done(text)
         }
         BenchAction::DropNext => {
-            target.drop_next(alloc, number, stamp)?;
+            row.targets()[place].drop_next(alloc, number, stamp)?;
             push_done(text)
         }
-        BenchAction::Fresh => renew(alloc, target, text, asker),
+        BenchAction::Fresh => renew(alloc, &mut row.targets()[place], text, asker),
     }
 }

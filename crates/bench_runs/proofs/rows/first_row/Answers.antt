@@ -1,9 +1,10 @@
-use Rattle.std.proofs.Common.{◌≡◌, List, [], ◌∷◌, ◌++◌, map, ap, sym, ◌∙◌}
+use Rattle.std.proofs.Common.{◌≡◌, ℕ, List, [], ◌∷◌, ◌++◌, map, ap, sym, subst, ◌∙◌, arith}
 use Rattle.array_journal.specs.Lists.{numbers}
 use Rattle.xor_target.specs.State.{TargetState}
 use Rattle.bench_runs.specs.BenchRuns.{first_target}
-use Rattle.bench_runs.proofs.Done.{first-on, targets-next}
-use Rattle.bench_runs.proofs.bench_targets.BenchTargets.new.Goals as goal
+use Rattle.xor_target.specs.Rigs.{IsRow}
+use Rattle.bench_runs.proofs.BenchRows.{first-on, targets-next, first-row}
+use Rattle.bench_runs.proofs.rows.first_row.Goals as goal
 
 pub loop-number-preserved : goal.loop-number-preserved
 loop-number-preserved c =
@@ -14,3 +15,9 @@ loop-number-preserved c =
     ∙ ap (λ (ts : List TargetState). ts ++ c.in_ok-new.field-0 ∷ []) c.loop-number.invariant
     ∙ ap (λ (t : TargetState). map (first_target bench) (numbers 0 n) ++ t ∷ []) target
     ∙ sym (targets-next bench n)
+
+pub new-requires-2 : goal.new-requires-2
+new-requires-2 c =
+    let bench = c.args.bench.now in
+    let last : c.loop-number.number ≡ bench.targets = omega arith in
+    subst IsRow (sym (c.loop-number.invariant ∙ ap (λ (n : ℕ). map (first_target bench) (numbers 0 n)) last)) (first-row bench)
