@@ -3,7 +3,7 @@
 use Rattle.std.specs.Prelude.{ℕ, ◌-◌, ◌*◌, ◌==◌, nat_lt, if◌then◌else◌, List, [], Option, Some, None, option_map, slice_get}
 use Rattle.stripe_layout.specs.declared.geometry.Geometry.{Geometry}
 use Rattle.stripe_layout.specs.declared.pieces.Piece.{Piece}
-use Rattle.stripe_layout.specs.Layout.{stripes_of, first_row, unit_rows, parity_of}
+use Rattle.stripe_layout.specs.Layout.{stripes_of, parity_of}
 use Rattle.stripe_layout.specs.Pieces.{pieces_of}
 use Rattle.array_journal.specs.declared.entry.Entry.{Entry}
 use Rattle.array_journal.specs.declared.event.Why.{Why}
@@ -17,6 +17,8 @@ use Rattle.array_journal.specs.declared.decision.Decision.TheVariants.{Opens, Re
 use Rattle.array_journal.specs.Decision.{decision}
 use Rattle.blocks_core.specs.Lists.{slice}
 use Rattle.array_journal.specs.Lives.{is_unfitted}
+use Rattle.array_book.specs.Asks as asks
+use Rattle.array_book.specs.Asks.{task_at}
 use Rattle.host_scripts.specs.declared.script.Call.{Call}
 use Rattle.host_scripts.specs.declared.script.Script.{Script}
 use Rattle.host_requests.specs.Requests.{Request, Fails, Moves, Loses, Wipes, Replaces, Rebuilds, Resyncs, Transfer, bytes_due, request_of, call_at}
@@ -35,21 +37,18 @@ pub record Aim : Type 0 where
 abbrev pub transfer_pieces : Script → Transfer → List Piece
 transfer_pieces script t = pieces_of script.geometry (most_blocks script) t.lba t.count
 
--- the blocks of a piece, and its part of the bytes that came
+-- the rows of a piece, and its part of the bytes that came
 abbrev pub piece_aim : Geometry → Transfer → Piece → Aim
-piece_aim g t piece = record {
-  want = t.want;
-  stripe = piece.place.stripe;
-  target = piece.place.target;
-  row = piece.place.row;
-  count = piece.count;
-  bytes = slice t.bytes ((piece.first - t.lba) * g.block) (bytes_due g t.want piece.count);
-}
+piece_aim g t piece =
+    let rows = asks.piece_aim t.want piece in
+    let bytes = slice t.bytes ((piece.first - t.lba) * g.block) (bytes_due g t.want piece.count) in
+    record { want = rows.want; stripe = rows.stripe; target = rows.target; row = rows.row; count = rows.count; bytes = bytes }
 
 -- a whole unit of a stripe
 abbrev pub unit_aim : Geometry → Want → ℕ → ℕ → Aim
 unit_aim g want stripe target =
-    record { want = want; stripe = stripe; target = target; row = first_row g stripe; count = unit_rows g stripe; bytes = [] }
+    let rows = asks.unit_aim g want stripe target in
+    record { want = rows.want; stripe = rows.stripe; target = rows.target; row = rows.row; count = rows.count; bytes = [] }
 
 -- the piece of a call is the unit in the stripe of its number
 abbrev pub stripe_aim : Geometry → Want → ℕ → ℕ → Option Aim
@@ -65,19 +64,10 @@ aim_of script (Loses target) piece = None
 aim_of script (Wipes target what) piece = None
 aim_of script (Replaces slot) piece = None
 
--- the task of a piece of a call
+-- the task of a piece of a call, as the book has it for the rows of the aim
 abbrev pub task_of_piece : Geometry → ℕ → ℕ → Aim → Kind → Task
-task_of_piece g call piece aim kind = record {
-  call = call;
-  piece = piece;
-  kind = kind;
-  stripe = aim.stripe;
-  target = aim.target;
-  parity = parity_of g aim.stripe;
-  row = aim.row;
-  count = aim.count;
-  bytes = aim.bytes;
-}
+task_of_piece g call piece aim kind =
+    task_at g call piece kind (record { want = aim.want; stripe = aim.stripe; target = aim.target; row = aim.row; count = aim.count }) aim.bytes
 
 -- a command is opened, a piece is refused, or a slot's disk is swapped
 pub data Begin : Type 0 where
