@@ -5,7 +5,6 @@ use Rattle.std.proofs.lemmas.List.{take_more, reverse-append}
 use Rattle.array_journal.specs.declared.entry.Entry.{Entry}
 use Rattle.stripe_check.specs.Asked.{call_list, calls_seen}
 use Rattle.stripe_check.specs.Steps.{call_of, steps_of, steps_by}
-use Rattle.stripe_check.proofs.Journals.{read_more}
 use Rattle.trace_check.specs.EntrySteps.{IsStepOf, AreStepsOf, steps_in, steps_with, calls_in}
 use Rattle.trace_check.specs.declared.asking.entry_steps.EntryStep.{EntryStep}
 

@@ -4,7 +4,6 @@ use Rattle.std.specs.List.{flat_map}
 use Rattle.std.specs.Fmt.{decimal, digits, digits_onto, digit_glyph}
 use Rattle.std.proofs.lemmas.Bool.{and_parts, and_from, ne_eqb, ltb-true}
 use Rattle.std.proofs.lemmas.Bool.Decides.{nat_tests}
-use Rattle.array_journal.specs.Lists.{numbers}
 use Rattle.text_fields.specs.Spelling.{line}
 use Rattle.text_fields.specs.Laws.{lacks}
 use Rattle.trace_check.specs.declared.checking.parting.LineStart.{LineStart}

@@ -1,10 +1,9 @@
-use Rattle.std.proofs.Common.{ℕ, ◌+◌, List, take, reverse, sym, subst, ◌∙◌}
+use Rattle.std.proofs.Common.{◌+◌, List, take, reverse, sym, subst, ◌∙◌}
 use Rattle.std.proofs.lemmas.Bool.{false≢true}
 use Rattle.array_journal.specs.declared.entry.Entry.{Entry}
 use Rattle.array_journal.specs.declared.setting.Setting.{Setting}
 use Rattle.array_journal.specs.May.{May}
 use Rattle.array_journal.specs.Merge.{Rises}
-use Rattle.array_journal.specs.Run.{Run}
 use Rattle.host_requests.specs.Settings.{setting_of}
 use Rattle.run_check.specs.RunStates.{IsRunState}
 use Rattle.run_check.proofs.Faulty.{run-more, no-run, is-fault}

@@ -2,7 +2,6 @@ use Rattle.std.proofs.Common.{List, sym, subst}
 use Rattle.array_journal.specs.declared.entry.Entry.{Entry}
 use Rattle.stripe_check.proofs.Journals.{read_more}
 use Rattle.journal_index.specs.Indexes.{IsIndexOf}
-use Rattle.trace_check.specs.Scans.{IsScanOf}
 use Rattle.trace_check.proofs.ScanSteps.{scan-on}
 use Rattle.trace_check.proofs.asking.entry_scan.scan_entries.Goals as goal
 

@@ -1,4 +1,4 @@
-use Rattle.std.proofs.Common.{refl, sym}
+use Rattle.std.proofs.Common.{refl}
 use Rattle.std.proofs.lemmas.Bool.Decides.{Decides-and}
 use Rattle.trace_check.proofs.StepsRead.{entry_steps-put}
 use Rattle.trace_check.proofs.asking.entry_scan.EntryScan.add.Goals as goal
