@@ -4,6 +4,7 @@ ghost use Rattle.std.specs.Prelude.{◌≡◌, ◌<◌, ◌≤◌, ◌^◌, leng
 ghost use Rattle.host_scripts.specs.Scripts.{IsScript};
 
 use crate::blocks::push_blocks_core;
+use crate::book::push_book;
 use crate::buffers::push_buffers;
 use crate::journals::push_journal;
 use crate::outside::push_outer_io;
@@ -69,5 +70,6 @@ fn called(alloc: Global, script: &Script, journal: &Journal) -> Result<Answer, M
     push_tables(alloc, &mut text)?;
     push_pages(&mut text)?;
     push_streams(alloc, &mut text)?;
+    push_book(alloc, &mut text)?;
     Ok(Answer::Text(text))
 }

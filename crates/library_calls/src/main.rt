@@ -5,6 +5,8 @@
 #![tactic(auto)]
 
 mod blocks;
+mod book;
+mod book_calls;
 mod buffers;
 mod calls;
 mod journals;
