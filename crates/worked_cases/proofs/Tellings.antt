@@ -1,5 +1,5 @@
 -- What is told of runs, of one more at their end.
-use Rattle.std.proofs.Common.{◌≡◌, List, ℕ, [], ◌∷◌, ◌++◌, refl, sym, subst}
+use Rattle.std.proofs.Common.{List, ℕ, [], ◌∷◌, ◌++◌, refl, sym, subst}
 use Rattle.worked_cases.specs.declared.lists.CaseRun.{CaseRun}
 use Rattle.worked_cases.specs.Runs.{IsTold, AreTold}
 

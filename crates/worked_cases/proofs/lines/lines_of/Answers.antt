@@ -1,9 +1,9 @@
-use Rattle.std.proofs.Common.{◌≡◌, ◌<◌, ℕ, List, [], length, ap, arith, rules, subst}
+use Rattle.std.proofs.Common.{◌≡◌, ◌<◌, ℕ, List, [], length, ap, arith}
 use Rattle.std.specs.List.{All}
 use Rattle.std.proofs.lemmas.List.Elements.{All-push}
 use Rattle.worked_cases.specs.declared.lines.Line.{Line}
 use Rattle.worked_cases.specs.Lines.{IsLine}
-use Rattle.worked_cases.proofs.LineLaws.{IsPassed, passed-more, line-first}
+use Rattle.worked_cases.proofs.LineLaws.{passed-more, line-first}
 use Rattle.worked_cases.proofs.lines.lines_of.Goals as goal
 
 -- something is left in the loop

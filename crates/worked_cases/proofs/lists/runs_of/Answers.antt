@@ -1,4 +1,3 @@
-use Rattle.std.proofs.Common.{List, ℕ, ◌+◌, take, drop}
 use Rattle.std.proofs.lemmas.List.Elements.{All-take, All-drop}
 use Rattle.std.proofs.lemmas.Result.{err_from_is_err_and}
 use Rattle.worked_cases.specs.declared.faults.Expected.TheVariants.{Size}
