@@ -143,6 +143,14 @@ not-false : (b : Bool) → not b ≡ false → b ≡ true
 not-false true h = refl
 not-false false h = absurd cc
 
+-- bytes without a fault are as many as are due
+pub sound-whole : (bytes : List ℕ) (intdata : Bool) (wanted : ℕ) → list_fault bytes intdata wanted ≡ None → length bytes ≡ due bytes intdata wanted
+unfolding list_fault
+sound-whole bytes intdata wanted h =
+    let t = passes-all (nat_lt (length bytes) 4) (not (get_or bytes 1 0 == 0)) (nat_lt (announced_room bytes) (16 * announced_sources bytes)) (not (length bytes == due bytes intdata wanted))
+    (Length 4 (length bytes)) (Field 1) (Field 2) (Length (due bytes intdata wanted) (length bytes)) (option_map Field (first_wrong 4 (reserved_of (announced_sources bytes)) (drop 4 bytes))) h in
+    eqb-true (length bytes) (due bytes intdata wanted) (not-false _ t.3)
+
 -- descriptors and pad of bytes without a fault are all there
 pub sound-room : (bytes : List ℕ) (intdata : Bool) (wanted : ℕ) → list_fault bytes intdata wanted ≡ None → HasRoom bytes
 unfolding list_fault
