@@ -107,6 +107,14 @@ impl Gather {
         self.taken.iter().filter(|taken| !**taken).count() as u8
     }
 
+    /// The exclusive-or of the sources that were accepted so far.
+    pub fn sum(&self) -> &[u8]
+        ensures sum { result.now ≡ self.now.sum }
+        ensures size { length result.now ≡ size self.now }
+    {
+        self.folded.as_slice()
+    }
+
     /// The exclusive-or of all sources, where each was accepted, without taking memory.
     pub fn result(self) -> Result<Bytes, Missing>
         ensures { MatchResult result
