@@ -1,12 +1,13 @@
 -- From what a command does to a disk and its log to what a target answers.
-use Rattle.std.specs.Prelude.{◌≡◌, ◌+◌, ◌*◌, ℕ, Bool, false, List, [], ◌∷◌, Option, IfSome}
+use Rattle.std.specs.Prelude.{◌≡◌, ◌+◌, ◌*◌, ℕ, Bool, true, false, List, length, [], ◌∷◌, Option, IfSome}
 use Rattle.std.proofs.Common.{ap, sym, ◌∙◌, subst}
 use Rattle.blocks_core.specs.Lists.{slice}
 use Rattle.sbc_cdbs.specs.Cdbs.{cdb_bytes}
+use Rattle.sbc_cdbs.specs.Kinds.{is_kept}
 use Rattle.sbc_cdbs.specs.declared.commands.Command.{Command}
 use Rattle.xor_mode_page.specs.declared.pages.XorPage.{XorPage}
 use Rattle.xor_buffers.specs.declared.held.HeldBlocks.{HeldBlocks}
-use Rattle.xor_buffers.specs.Held.{owners_of}
+use Rattle.xor_buffers.specs.Held.{owners_of, held_blocks}
 use Rattle.array_journal.specs.declared.entry.Entry.{Entry}
 use Rattle.array_journal.specs.declared.event.Event.TheVariants.{Gone}
 use Rattle.array_journal.specs.Lives.{life_of}
@@ -16,8 +17,9 @@ use Rattle.xor_target.specs.Admission.{count_of}
 use Rattle.xor_target.specs.Logs.{Logged}
 use Rattle.xor_target.specs.Disks.{DiskState, HasFailed}
 use Rattle.xor_target.specs.declared.waiting.Waiting.{Waiting}
+use Rattle.xor_target.specs.Waits.{without_gatherings}
 use Rattle.xor_target.specs.State.{TargetState, state_of}
-use Rattle.xor_target.specs.Effects.{rewritten}
+use Rattle.xor_target.specs.Effects.{bytes_back, rewritten}
 use Rattle.xor_target.specs.Answers.{IsDone, IsStruck, next_stamp}
 use Rattle.xor_target.specs.Acts.{IsActOf, IsPerformed, IsSteady}
 use Rattle.xor_target.proofs.DiskSteps.{disk_with}
@@ -41,9 +43,10 @@ grown-state targets first page waiting disk disk' log log' contents faults slots
 -- a command that was performed is done
 pub performed-done : (targets : ℕ) (first page : XorPage) (waiting : List Waiting) (disk disk' : DiskState) (log log' : Logged) (order : Order) (command : Command) (act : BlockAct) (bytes : List ℕ) →
     IsActOf command act → cdb_bytes act.cdb ≡ order.cdb → act.stamp ≡ next_stamp log.past order.stamp →
-    IsPerformed disk log order command act bytes disk' log' →
+    IsPerformed disk log order command act bytes disk' log' → length bytes ≡ bytes_back disk.block command →
+    (is_kept command ≡ true → held_blocks disk.block disk'.buffer.list ≡ held_blocks disk.block disk.buffer.list + act.count) →
     IsDone (state_of targets first page waiting disk log) order command bytes (state_of targets first page waiting disk' log')
-performed-done targets first page waiting disk disk' log log' order command act bytes rows sent stamp done =
+performed-done targets first page waiting disk disk' log log' order command act bytes rows sent stamp done whole fills =
     let d = done.done in
     let effect = done.effect_by d.old in
     let entry : ℕ → Entry = λ s. record { stamp = s; lock = log.number + 1; event = effect.event } in
@@ -57,6 +60,8 @@ performed-done targets first page waiting disk disk' log log' order command act 
           (subst (λ (n : ℕ). IfSome disk.contents (λ told. d.old ≡ slice told (act.row * disk.block) (n * disk.block))) rows.count d.stood);
       does = done.does d.old;
       answers = d.answers;
+      whole = whole;
+      fills = λ kept. fills kept ∙ ap (λ n. held_blocks disk.block disk.buffer.list + n) rows.count;
       counted = d.counted;
       grown =
           grown-state targets first page waiting disk disk' log log' disk'.contents disk'.faults disk'.buffer.slots effect.held (entry act.stamp) d.kept d.logged d.number
@@ -70,18 +75,19 @@ pub failed-struck : (never_fails : Bool) (targets : ℕ) (first page : XorPage) 
     IsSteady disk mid → HasFailed never_fails disk.faults mid.faults → disk' ≡ record mid { buffer = record mid.buffer { list = [] } } →
     log'.past ≡ record { stamp = stamp; lock = log.number + 1; event = Gone (life_of log.number log.past) 0 owners } ∷ log.past → log'.number ≡ log.number →
     stamp ≡ next_stamp log.past seen → (never_fails ≡ false → owners ≡ owners_of disk.buffer.list) →
-    IsStruck never_fails (state_of targets first page waiting disk log) seen (state_of targets first page waiting disk' log')
+    IsStruck never_fails (state_of targets first page waiting disk log) seen (state_of targets first page (without_gatherings waiting) disk' log')
 failed-struck never_fails targets first page waiting disk mid disk' log log' seen stamp owners steady failed wiped past number stamped owned =
+    let left = without_gatherings waiting in
     let faults = ap (λ (z : DiskState). z.faults) wiped in
     let contents = ap (λ (z : DiskState). z.contents) wiped in
     let gone : ℕ → List ℕ → Entry = λ s o. record { stamp = s; lock = log.number + 1; event = Gone (life_of log.number log.past) 0 o } in
-    let t : Entry → TargetState = λ e. record (state_of targets first page waiting disk log) { past = e ∷ log.past; held = []; contents = disk'.contents; faults = disk'.faults } in
+    let t : Entry → TargetState = λ e. record (state_of targets first page left disk log) { past = e ∷ log.past; held = []; contents = disk'.contents; faults = disk'.faults } in
     record {
       failed = subst (λ (n : ℕ). HasFailed never_fails disk.faults n) (sym faults) failed;
       grown =
-          grown-state targets first page waiting disk disk' log log' mid.contents mid.faults mid.buffer.slots [] (gone stamp owners)
+          grown-state targets first page left disk disk' log log' mid.contents mid.faults mid.buffer.slots [] (gone stamp owners)
           (wiped ∙ ap (λ (z : DiskState). record z { buffer = record z.buffer { list = [] } }) steady.same) past number
-          ∙ ap (λ c. record (state_of targets first page waiting disk log) { past = gone stamp owners ∷ log.past; held = []; contents = c; faults = mid.faults }) (sym contents)
-          ∙ ap (λ f. record (state_of targets first page waiting disk log) { past = gone stamp owners ∷ log.past; held = []; contents = disk'.contents; faults = f }) (sym faults)
+          ∙ ap (λ c. record (state_of targets first page left disk log) { past = gone stamp owners ∷ log.past; held = []; contents = c; faults = mid.faults }) (sym contents)
+          ∙ ap (λ f. record (state_of targets first page left disk log) { past = gone stamp owners ∷ log.past; held = []; contents = disk'.contents; faults = f }) (sym faults)
           ∙ ap (λ s. t (gone s owners)) stamped ∙ ap (λ o. t (gone (next_stamp log.past seen) o)) (owned failed.may_fail);
     }

@@ -16,36 +16,32 @@ use Rattle.sbc_cdbs.proofs.Again.{again}
 use Rattle.sbc_cdbs.proofs.Offending.{first-found}
 use Rattle.xor_mode_page.specs.declared.pages.XorPage.{XorPage}
 use Rattle.xor_target.specs.declared.limits.TargetLimits.{TargetLimits}
-use Rattle.xor_target.specs.Admission.{first_some, command_in, is_unserved, cdb_rows, command_rows, refusal_of}
+use Rattle.xor_target.specs.Admission.{first_some, command_in, cdb_rows, command_rows, refusal_of}
 use Rattle.xor_target.specs.Codes.{is_shut_out, fault_sense}
 
--- the rows of a CDB of at least one byte, by the bits that must be zero, whether the code is forbidden, and whether it
--- isn't served
-abbrev rows_by : Option (List ℕ) → Bool → Bool → List ℕ → List (Option Sense)
-rows_by mask forbidden unserved cdb =
+-- the rows of a CDB of at least one byte, by the bits that must be zero, and whether the code is forbidden
+abbrev rows_by : Option (List ℕ) → Bool → List ℕ → List (Option Sense)
+rows_by mask forbidden cdb =
     then_some (is_none mask || forbidden) (illegal 0x20 0 None)
-    ∷ then_some unserved (illegal 0x20 0 None)
     ∷ then_some (not (unwrap_or (option_map length mask) (length cdb) == length cdb)) (illegal 0x24 0 None)
     ∷ option_map (λ byte. illegal 0x24 0 (Some (in_cdb byte))) (first_offending 0 (unwrap_or mask []) cdb)
     ∷ []
 
-unknown : (mask : Option (List ℕ)) (forbidden unserved : Bool) (cdb : List ℕ) → mask ≡ None
-    → first_some (rows_by mask forbidden unserved cdb) ≡ Some (illegal 0x20 0 None)
-unknown None forbidden unserved cdb e = refl
-unknown (Some mask) forbidden unserved cdb e = absurd (none-some mask (sym e))
+unknown : (mask : Option (List ℕ)) (forbidden : Bool) (cdb : List ℕ) → mask ≡ None
+    → first_some (rows_by mask forbidden cdb) ≡ Some (illegal 0x20 0 None)
+unknown None forbidden cdb e = refl
+unknown (Some mask) forbidden cdb e = absurd (none-some mask (sym e))
 
-measured : (mask cdb : List ℕ) (forbidden unserved : Bool) → (forbidden || unserved) ≡ false → length cdb ≢ length mask
-    → first_some (rows_by (Some mask) forbidden unserved cdb) ≡ Some (illegal 0x24 0 None)
-measured mask cdb true unserved e differs = absurd (false≢true (sym e))
-measured mask cdb false true e differs = absurd (false≢true (sym e))
-measured mask cdb false false e differs = rw (ne_eqb (length mask) (length cdb) (λ s. differs (sym s))) refl
+measured : (mask cdb : List ℕ) (forbidden : Bool) → forbidden ≡ false → length cdb ≢ length mask
+    → first_some (rows_by (Some mask) forbidden cdb) ≡ Some (illegal 0x24 0 None)
+measured mask cdb true e differs = absurd (false≢true (sym e))
+measured mask cdb false e differs = rw (ne_eqb (length mask) (length cdb) (λ s. differs (sym s))) refl
 
-sound : (mask cdb : List ℕ) (forbidden unserved : Bool) (byte : Option ℕ) → (forbidden || unserved) ≡ false → length cdb ≡ length mask
+sound : (mask cdb : List ℕ) (forbidden : Bool) (byte : Option ℕ) → forbidden ≡ false → length cdb ≡ length mask
     → first_offending 0 mask cdb ≡ byte
-    → first_some (rows_by (Some mask) forbidden unserved cdb) ≡ option_map (λ b. illegal 0x24 0 (Some (in_cdb b))) byte
-sound mask cdb true unserved byte e same first = absurd (false≢true (sym e))
-sound mask cdb false true byte e same first = absurd (false≢true (sym e))
-sound mask cdb false false byte e same first =
+    → first_some (rows_by (Some mask) forbidden cdb) ≡ option_map (λ b. illegal 0x24 0 (Some (in_cdb b))) byte
+sound mask cdb true byte e same first = absurd (false≢true (sym e))
+sound mask cdb false byte e same first =
     rw (eq-eqb (length mask) (length cdb) (sym same))
     (subst (λ (o : Option ℕ). first_some (option_map (λ b. illegal 0x24 0 (Some (in_cdb b))) o ∷ []) ≡ option_map (λ b. illegal 0x24 0 (Some (in_cdb b))) byte) (sym first) (one byte))
   where
@@ -55,10 +51,10 @@ sound mask cdb false false byte e same first =
 
 -- what holds by the mask that is known holds by the operation code
 by_mask : (page : XorPage) (code : ℕ) (rest : List ℕ) (mask : Option (List ℕ)) (sense : Option Sense) → reserved_bits code ≡ mask
-    → first_some (rows_by mask (page.xordis && is_xor_code code) (is_unserved code) (code ∷ rest)) ≡ sense
+    → first_some (rows_by mask (page.xordis && is_xor_code code) (code ∷ rest)) ≡ sense
     → first_some (cdb_rows page (code ∷ rest)) ≡ sense
 by_mask page code rest mask sense known e =
-    subst (λ (o : Option (List ℕ)). first_some (rows_by o (page.xordis && is_xor_code code) (is_unserved code) (code ∷ rest)) ≡ sense) (sym known) e
+    subst (λ (o : Option (List ℕ)). first_some (rows_by o (page.xordis && is_xor_code code) (code ∷ rest)) ≡ sense) (sym known) e
 
 -- a CDB has the mask of its code where one is as long as its code wants
 wanted : (mask : Option (List ℕ)) (want : ℕ) → option_map length mask ≡ Some want → (m : List ℕ) × (mask ≡ Some m) × (length m ≡ want)
@@ -72,14 +68,14 @@ refuses page [] (Length want got) open_to h = refl
 refuses page [] (Bits byte) open_to h = absurd (none-some h.mask h.known)
 refuses page (code ∷ rest) (OpCode other) open_to h =
     let same : code ≡ other = same_Some code other h.0 in
-    by_mask page code rest None _ (ap reserved_bits same ∙ h.1) (unknown None (page.xordis && is_xor_code code) (is_unserved code) (code ∷ rest) refl)
+    by_mask page code rest None _ (ap reserved_bits same ∙ h.1) (unknown None (page.xordis && is_xor_code code) (code ∷ rest) refl)
 refuses page (code ∷ rest) (Length want got) open_to h =
     let known = wanted (reserved_bits code) want h.2 in
     by_mask page code rest (Some known.0) _ known.1
-    (measured known.0 (code ∷ rest) (page.xordis && is_xor_code code) (is_unserved code) open_to (λ e. h.1 (h.0 ∙ e ∙ known.2)))
+    (measured known.0 (code ∷ rest) (page.xordis && is_xor_code code) open_to (λ e. h.1 (h.0 ∙ e ∙ known.2)))
 refuses page (code ∷ rest) (Bits byte) open_to h =
     by_mask page code rest (Some h.mask) _ h.known
-    (sound h.mask (code ∷ rest) (page.xordis && is_xor_code code) (is_unserved code) (Some byte) open_to h.long
+    (sound h.mask (code ∷ rest) (page.xordis && is_xor_code code) (Some byte) open_to h.long
     (first-found 0 h.mask (code ∷ rest) byte h.long h.first.0 h.first.1 h.first.2 ∙ ap Some (omega arith)))
 
 -- ---- the whole table

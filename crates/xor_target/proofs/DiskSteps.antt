@@ -1,7 +1,8 @@
 -- What the calls of a disk leave, one after the other.
-use Rattle.std.specs.Prelude.{◌≡◌, ℕ, List, [], ◌∷◌, ◌++◌, Option}
+use Rattle.std.specs.Prelude.{◌≡◌, ◌+◌, ℕ, List, [], ◌∷◌, ◌++◌, Option}
 use Rattle.std.proofs.Common.{ap, sym, ◌∙◌, subst}
 use Rattle.xor_buffers.specs.declared.held.HeldBlocks.{HeldBlocks}
+use Rattle.xor_buffers.specs.Held.{held_blocks}
 use Rattle.xor_target.specs.Disks.{DiskState}
 
 -- a disk with other bytes, count of failures, slots and held blocks
@@ -25,3 +26,12 @@ held-last d r m w h x y er em ew eh e =
     ∙ ap (λ (z : DiskState). record z { contents = w.contents; faults = w.faults; buffer = record z.buffer { list = z.buffer.list ++ x ∷ [] } }) em
     ∙ ap (λ (z : DiskState). record z { contents = w.contents; faults = w.faults; buffer = record z.buffer { list = z.buffer.list ++ x ∷ [] } }) er
     ∙ ap (λ (b : HeldBlocks). disk_with d w.contents w.faults r.buffer.slots (d.buffer.list ++ b ∷ [])) e)
+
+-- and there are as many more as were held last
+pub filled-last : (d r m w : DiskState) (now : List HeldBlocks) (n : ℕ) → r ≡ record d { buffer = record d.buffer { slots = r.buffer.slots } } →
+    m ≡ record r { contents = m.contents; faults = m.faults } → w ≡ record m { contents = w.contents; faults = w.faults } →
+    held_blocks w.block now ≡ held_blocks w.block w.buffer.list + n → held_blocks d.block now ≡ held_blocks d.block d.buffer.list + n
+filled-last d r m w now n er em ew e =
+    let block : w.block ≡ d.block = ap (λ (z : DiskState). z.block) ew ∙ ap (λ (z : DiskState). z.block) em ∙ ap (λ (z : DiskState). z.block) er in
+    let list : w.buffer.list ≡ d.buffer.list = ap (λ (z : DiskState). z.buffer.list) ew ∙ ap (λ (z : DiskState). z.buffer.list) em ∙ ap (λ (z : DiskState). z.buffer.list) er in
+    ap (λ b. held_blocks b now) (sym block) ∙ e ∙ ap (λ b. held_blocks b w.buffer.list + n) block ∙ ap (λ (l : List HeldBlocks). held_blocks d.block l + n) list

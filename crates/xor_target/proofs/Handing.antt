@@ -1,5 +1,5 @@
 -- A target hands a call on to its disk and log: what these answer for any pages, they answer for its own.
-use Rattle.std.specs.Prelude.{◌≡◌, ℕ, List, Result, Ok, Err, IfOk, OnErr}
+use Rattle.std.specs.Prelude.{◌≡◌, ℕ, List, Result, Ok, Err, IfOk, OnOk, OnErr}
 use Rattle.std.proofs.Common.{sym, subst}
 use Rattle.xor_mode_page.specs.declared.pages.XorPage.{XorPage}
 use Rattle.xor_target.specs.declared.waiting.Waiting.{Waiting}
@@ -35,3 +35,13 @@ pub unit-err : {A E : Type 0} (r : Result A E) (Q : ℕ → XorPage → XorPage 
     OnErr r ((n : ℕ) (f p : XorPage) → Q n f p) → OnErr r (Q n f p)
 unit-err (Ok a) Q n f p h = tt
 unit-err (Err e) Q n f p h = h n f p
+
+-- what is good is more, where more follows from it
+pub ok-so : {A E : Type 0} (r : Result A E) (P Q : A → Type 0) → IfOk r P → ((a : A) → P a → Q a) → IfOk r Q
+ok-so (Ok a) P Q p f = f a p
+ok-so (Err e) P Q p f = tt
+
+-- the same with what else holds where a call is good
+pub ok-with : {A E : Type 0} (r : Result A E) (P Q : A → Type 0) (B : Type 0) → IfOk r P → OnOk r B → ((a : A) → P a → B → Q a) → IfOk r Q
+ok-with (Ok a) P Q B p b f = f a p b
+ok-with (Err e) P Q B p b f = tt

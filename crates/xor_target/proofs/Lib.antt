@@ -12,8 +12,17 @@ pub mod KeptStates
 pub mod KeptBefalls
 pub mod Handing
 pub mod WaitLists
+pub mod WaitingSources
+pub mod Gatherings
+pub mod Asides
+pub mod AsideStates
+pub mod Continued
+pub mod Resuming
 pub mod SentDeltas
 pub mod Possible
 pub mod RigRows
 pub mod RigAnswers
+pub mod RigGatherings
+pub mod RigReads
 pub mod RigSteps
+pub mod RigFewer

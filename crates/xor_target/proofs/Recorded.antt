@@ -11,6 +11,7 @@ use Rattle.array_journal.specs.Entries.{count_at, name_of}
 use Rattle.array_journal.specs.Lives.{loss_of, loss_after}
 use Rattle.array_journal.specs.Media.{media, medium_after, held, held_after}
 use Rattle.array_journal.proofs.runs.Steps.{media-here, held-here, count_at-quiet}
+use Rattle.xor_target.specs.declared.waiting.Waiting.{Waiting}
 use Rattle.xor_target.specs.State.{TargetState, IsRecorded, target_setting, has_failed, has_failed_after, is_failure}
 use Rattle.xor_target.specs.Effects.{rewritten}
 
@@ -29,6 +30,10 @@ told-after block row (Some blocks) (Some told) P h = h
 pub told-map : (contents : Option (List ℕ)) (P Q : List ℕ → Type 0) → ((told : List ℕ) → contents ≡ Some told → P told → Q told) → IfSome contents P → IfSome contents Q
 told-map None P Q f h = tt
 told-map (Some told) P Q f h = f told refl h
+
+-- who waits is nothing to what the entries say
+pub told-waiting : (t : TargetState) (waiting : List Waiting) (contents : Option (List ℕ)) → IfSome contents (IsRecorded t) → IfSome contents (IsRecorded (record t { waiting = waiting }))
+told-waiting t waiting contents h = told-map contents (IsRecorded t) (IsRecorded (record t { waiting = waiting })) (λ told is r. record { held = r.held; media = r.media }) h
 
 -- what a step has to keep: what is held, and what stands on the medium, go as the entry's event says
 pub record Keeps (t : TargetState) (e : Entry) (now : List HeldBlocks) (bytes : List ℕ) : Type 0 where

@@ -1,5 +1,5 @@
 -- An XDWRITE EXTENDED that was done sends its delta, or has its request dropped.
-use Rattle.std.specs.Prelude.{◌≡◌, ℕ, Bool, true, false, List, [], ◌∷◌, ◌++◌, Some}
+use Rattle.std.specs.Prelude.{◌≡◌, ℕ, Bool, true, false, List, [], ◌∷◌, ◌++◌, Some, None}
 use Rattle.std.proofs.Common.{refl, ap, sym, ◌∙◌, subst}
 use Rattle.sbc_cdbs.specs.declared.commands.Command.{Command}
 use Rattle.xor_mode_page.specs.declared.pages.XorPage.{XorPage}
@@ -14,8 +14,8 @@ use Rattle.xor_target.specs.declared.waiting.Waiting.{Waiting}
 use Rattle.xor_target.specs.Disks.{DiskState}
 use Rattle.xor_target.specs.Logs.{Logged, drops_next}
 use Rattle.xor_target.specs.State.{TargetState, state_of}
-use Rattle.xor_target.specs.Acts.{IsFewWhereGone}
-use Rattle.xor_target.specs.Answers.{IsActed, Does, Fails, IsDone, IsSent, Sends, Drops, Loses, next_name, fold_request, communication_failure}
+use Rattle.xor_target.specs.Acts.{IsFewWhereGone, waiting_left}
+use Rattle.xor_target.specs.Answers.{IsActed, Does, Fails, IsDone, IsStruck, IsSent, Sends, Drops, Loses, next_name, fold_request, communication_failure}
 use Rattle.xor_target.specs.Sending.{with_bytes, sent_answer, waiting_sent}
 
 -- what was taken before is for the next entry of a target
@@ -37,24 +37,26 @@ sent-by never targets first page ws disk disk' log log' order command second cou
 sent-by never targets first page ws disk disk' log log' order command second count address s bytes false ready e done =
     let name = next_name (state_of targets first page ws disk log) order.stamp in
     Sends bytes (state_of targets first page ws disk' log') e done
-    (ap (λ (names : List At). state_of targets first page (ws ++ record { owner = order.owner; made = names } ∷ []) disk' log') (ready.kept ∙ ap (λ (n : At). n ∷ []) ready.name))
+    (ap (λ (names : List At). state_of targets first page (ws ++ record { owner = order.owner; made = names; gathering = None } ∷ []) disk' log') (ready.kept ∙ ap (λ (n : At). n ∷ []) ready.name))
     (ap (λ (r : PeerRequest). Peer (with_bytes r bytes) (name ∷ [])) ready.request
     ∙ ap (λ (n : At). Peer (fold_request log.number n order second count address bytes) (name ∷ [])) ready.name)
 
 pub sent-of : (never : Bool) (targets : ℕ) (first page : XorPage) (ws : List Waiting) (disk disk' : DiskState) (log log' : Logged) (order : Order) (command : Command)
     (second count address : ℕ) (s : Sending) (answer : Answer) →
     IsReady (state_of targets first page ws disk log) order second count address s →
-    IsActed never (state_of targets first page ws disk log) order command answer (state_of targets first page ws disk' log') →
+    IsActed never (state_of targets first page ws disk log) order command answer (state_of targets first page (waiting_left answer ws) disk' log') →
     IsSent never (state_of targets first page ws disk log) order command second count address (sent_answer s (drops_next log.number log.past) answer)
     (state_of targets first page (waiting_sent ws order.owner s (drops_next log.number log.past) answer) disk' log')
 sent-of never targets first page ws disk disk' log log' order command second count address s answer ready (Does bytes done says) =
+    let left = subst (λ (a : Answer). IsDone (state_of targets first page ws disk log) order command bytes (state_of targets first page (waiting_left a ws) disk' log')) says done in
     subst (λ (a : Answer). IsSent never (state_of targets first page ws disk log) order command second count address (sent_answer s (drops_next log.number log.past) a)
     (state_of targets first page (waiting_sent ws order.owner s (drops_next log.number log.past) a) disk' log')) (sym says)
-    (sent-by never targets first page ws disk disk' log log' order command second count address s bytes (drops_next log.number log.past) ready refl done)
+    (sent-by never targets first page ws disk disk' log log' order command second count address s bytes (drops_next log.number log.past) ready refl left)
 sent-of never targets first page ws disk disk' log log' order command second count address s answer ready (Fails struck says) =
+    let left = subst (λ (a : Answer). IsStruck never (state_of targets first page ws disk log) order.stamp (state_of targets first page (waiting_left a ws) disk' log')) says struck in
     subst (λ (a : Answer). IsSent never (state_of targets first page ws disk log) order command second count address (sent_answer s (drops_next log.number log.past) a)
     (state_of targets first page (waiting_sent ws order.owner s (drops_next log.number log.past) a) disk' log')) (sym says)
-    (Loses struck refl)
+    (Loses left refl)
 
 pub few-sent : (past : List Entry) (s : Sending) (dropped : Bool) (answer : Answer) → IsFewWhereGone past answer → IsFewWhereGone past (sent_answer s dropped answer)
 few-sent past s true (Good bytes made) few = tt

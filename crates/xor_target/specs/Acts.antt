@@ -16,14 +16,19 @@ use Rattle.xor_target.specs.declared.act.ActStop.{ActStop}
 use Rattle.xor_target.specs.declared.act.ActStop.TheVariants.{Memory, Failed}
 use Rattle.xor_target.specs.declared.order.Order.{Order}
 use Rattle.xor_target.specs.declared.answer.Answer.{Answer}
-use Rattle.xor_target.specs.declared.answer.Answer.TheVariants.{Gone}
+use Rattle.xor_target.specs.declared.answer.Answer.TheVariants.{Good, Check, Gone, Shut, Peer}
+use Rattle.xor_target.specs.declared.answer.Answer.TheVariants as answers
 use Rattle.xor_target.specs.declared.answer.GoneAt.{GoneAt}
 use Rattle.xor_target.specs.Answers.{next_stamp, next_name, IsStruck}
 use Rattle.xor_target.specs.Befalls.{IsFresh}
 use Rattle.xor_target.specs.Disks.{DiskState, HasFailed}
 use Rattle.xor_target.specs.declared.admission.Admitted.{Admitted}
-use Rattle.xor_target.specs.Admission.{command_in, row_of, count_of, data_due, IsServed, AsksForKept, HasSoundList}
+use Rattle.xor_target.specs.Admission.{command_in, row_of, count_of, data_due, AsksForKept, HasSoundList}
 use Rattle.xor_target.specs.declared.waiting.Waiting.{Waiting}
+use Rattle.xor_params.specs.Contents.{HasRoom, intermediate_in}
+use Rattle.regen_rebuild.specs.Gatherings.{size}
+use Rattle.xor_target.specs.Gathers.{GatheringState, IsGatherer, IsUnderWay}
+use Rattle.xor_target.specs.Waits.{waiting_of, without_gatherings}
 use Rattle.xor_target.specs.State.{TargetState, state_of, limits_of}
 use Rattle.xor_target.specs.Table.{is_take, early_answer}
 use Rattle.xor_target.specs.Effects.{Effect, effect_of, rewritten}
@@ -88,8 +93,28 @@ MovesBlocks (XdWriteRead dpo fua disable lba count) = Unit {0}
 MovesBlocks (ModeSelect pf sp list) = ⊥
 MovesBlocks (ModeSense dbd pc page allocation) = ⊥
 MovesBlocks (XdWriteExtended dpo fua disable lba second count address) = Unit {0}
-MovesBlocks (Rebuild dpo fua intdata lba count list) = ⊥
-MovesBlocks (Regenerate dpo fua intdata lba count list) = ⊥
+MovesBlocks (Rebuild dpo fua intdata lba count list) = Unit {0}
+MovesBlocks (Regenerate dpo fua intdata lba count list) = Unit {0}
+
+-- it comes with its own data, if it has any, and gathers none
+abbrev pub BringsBlocks : Command → Type 0
+BringsBlocks (Rebuild dpo fua intdata lba count list) = ⊥
+BringsBlocks (Regenerate dpo fua intdata lba count list) = ⊥
+BringsBlocks command = MovesBlocks command
+
+-- how many bytes come with a command, or have been gathered for it
+abbrev pub bytes_due : ℕ → Command → ℕ
+bytes_due block (Read dpo fua lba count) = 0
+bytes_due block (Write dpo fua lba count) = count * block
+bytes_due block (XdWrite dpo fua disable lba count) = count * block
+bytes_due block (XpWrite dpo fua lba count) = count * block
+bytes_due block (XdRead lba count) = 0
+bytes_due block (XdWriteRead dpo fua disable lba count) = count * block
+bytes_due block (ModeSelect pf sp list) = list
+bytes_due block (ModeSense dbd pc page allocation) = 0
+bytes_due block (XdWriteExtended dpo fua disable lba second count address) = count * block
+bytes_due block (Rebuild dpo fua intdata lba count list) = count * block
+bytes_due block (Regenerate dpo fua intdata lba count list) = count * block
 
 -- A command of blocks can be done on a disk: it has some blocks, within the rows, as much data came as is due, what it would
 -- hold is free and finds room, and what it would take is held.
@@ -98,10 +123,35 @@ pub record IsPossible (disk : DiskState) (order : Order) (command : Command) : T
   pub some : 1 ≤ count_of command
   pub within : row_of command + count_of command ≤ disk.rows
   pub fits : row_of command + count_of command ≤ 2 ^ 32
-  pub due : length order.bytes ≡ data_due disk.block command
+  pub due : length order.bytes ≡ bytes_due disk.block command
   pub free : is_kept command ≡ true → overlap_of disk.block (row_of command) (count_of command) disk.buffer.list ≡ None
   pub room : is_kept command ≡ true → nat_lt (disk.buffer.capacity - held_blocks disk.block disk.buffer.list) (count_of command) ≡ false
   pub held : is_take command ≡ true → holder_of disk.block (row_of command) (count_of command * disk.block) disk.buffer.list ≡ None → ⊥
+
+-- an order with a sound list begins to gather what its command needs
+pub record IsGatherable (disk : DiskState) (order : Order) (admitted : Admitted) : Type 0 where
+  pub gathers : IsGatherer admitted.command
+  pub sent : cdb_bytes admitted.cdb ≡ order.cdb
+  pub list : HasRoom order.bytes
+  pub some : 1 ≤ count_of admitted.command
+  pub counted : count_of admitted.command ≤ 65535
+  pub within : row_of admitted.command + count_of admitted.command ≤ disk.rows
+  pub fits : row_of admitted.command + count_of admitted.command ≤ 2 ^ 32
+  pub sized : length (intermediate_in order.bytes) ≤ count_of admitted.command * disk.block
+  pub free : is_kept admitted.command ≡ true → overlap_of disk.block (row_of admitted.command) (count_of admitted.command) disk.buffer.list ≡ None
+  pub room : is_kept admitted.command ≡ true → nat_lt (disk.buffer.capacity - held_blocks disk.block disk.buffer.list) (count_of admitted.command) ≡ false
+
+-- an owner's command gathers, and so many bytes are those of the source that it asked
+pub record IsGathering (disk : DiskState) (owner len : ℕ) (ws : List Waiting) : Type 0 where
+  pub waiting : Waiting
+  pub gathering : GatheringState
+  pub waits : waiting_of owner ws ≡ Some waiting
+  pub gathers : waiting.gathering ≡ Some gathering
+  pub under_way : IsUnderWay disk.block disk.rows gathering
+  pub own : gathering.order.owner ≡ owner
+  pub size : len ≡ size gathering.gather
+  pub free : is_kept gathering.admitted.command ≡ true → overlap_of disk.block (row_of gathering.admitted.command) (count_of gathering.admitted.command) disk.buffer.list ≡ None
+  pub room : is_kept gathering.admitted.command ≡ true → nat_lt (disk.buffer.capacity - held_blocks disk.block disk.buffer.list) (count_of gathering.admitted.command) ≡ false
 
 -- the act is on the rows of a command
 pub record IsActOf (command : Command) (act : BlockAct) : Type 0 where
@@ -119,7 +169,6 @@ pub record IsAdmitted (t : TargetState) (order : Order) (admitted : Admitted) : 
   pub early : early_answer t order ≡ None
   pub command : admitted.command ≡ command_in order.cdb
   pub sent : cdb_bytes admitted.cdb ≡ order.cdb
-  pub served : IsServed admitted.command
   pub within : row_of admitted.command + count_of admitted.command ≤ t.rows
   pub fits : row_of admitted.command + count_of admitted.command ≤ 2 ^ 32
   pub due : length order.bytes ≡ data_due t.block admitted.command
@@ -134,7 +183,25 @@ IsRenewedAs never_fails targets first page waiting disk log call swap seen disk_
     × IsFresh (state_of targets first page waiting disk log) call swap seen (state_of targets first first waiting disk_after log_after)
 IsRenewedAs never_fails targets first page waiting disk log call swap seen disk_after log_after (Err gone) =
     (gone ≡ record { at = next_name (state_of targets first page waiting disk log) seen; life = life_of log.number log.past })
-    × IsStruck never_fails (state_of targets first page waiting disk log) seen (state_of targets first page waiting disk_after log_after)
+    × IsStruck never_fails (state_of targets first page waiting disk log) seen (state_of targets first page (without_gatherings waiting) disk_after log_after)
+
+-- the same of a logical unit, which knows who waits
+abbrev pub IsUnitRenewed : Bool → ℕ → XorPage → XorPage → List Waiting → DiskState → Logged → ℕ → At → ℕ → List Waiting → DiskState → Logged → Result (List At) GoneAt → Type 0
+IsUnitRenewed never_fails targets first page waiting disk log call swap seen waiting_after disk_after log_after (Ok made) =
+    (made ≡ next_name (state_of targets first page waiting disk log) seen ∷ [])
+    × IsFresh (state_of targets first page waiting disk log) call swap seen (state_of targets first first waiting_after disk_after log_after)
+IsUnitRenewed never_fails targets first page waiting disk log call swap seen waiting_after disk_after log_after (Err gone) =
+    (gone ≡ record { at = next_name (state_of targets first page waiting disk log) seen; life = life_of log.number log.past })
+    × IsStruck never_fails (state_of targets first page waiting disk log) seen (state_of targets first page waiting_after disk_after log_after)
+
+-- who waits after an answer: none of those that gather, where the disk is answered to be lost
+abbrev pub waiting_left : Answer → List Waiting → List Waiting
+waiting_left (Gone at life loss) ws = without_gatherings ws
+waiting_left (Good bytes made) ws = ws
+waiting_left (Check sense made loss) ws = ws
+waiting_left (Shut at) ws = ws
+waiting_left (Peer request made) ws = ws
+waiting_left answers.Memory ws = ws
 
 -- where a disk is answered to be lost, a log has fewer entries than a count of failures can tell
 abbrev pub IsFewWhereGone : List Entry → Answer → Type 0

@@ -46,14 +46,6 @@ abbrev pub refused_code : XorPage → List ℕ → Option Sense
 refused_code page [] = None
 refused_code page (code ∷ cdb) = then_some (is_refused_code page code) (illegal 0x20 0 None)
 
--- REBUILD and REGENERATE, which no target serves yet
-abbrev pub is_unserved : ℕ → Bool
-is_unserved code = code == 0x81 || code == 0x82
-
-abbrev pub unserved : List ℕ → Option Sense
-unserved [] = None
-unserved (code ∷ cdb) = then_some (is_unserved code) (illegal 0x20 0 None)
-
 -- ---- the CDB: INVALID FIELD IN CDB, mostly with a pointer at the field
 
 -- It isn't as long as its operation code asks for. A CDB of no byte has no code, and the wrong length.
@@ -169,7 +161,7 @@ wrong_list limits command bytes = None
 
 -- the rows that a CDB decides alone
 abbrev pub cdb_rows : XorPage → List ℕ → List (Option Sense)
-cdb_rows page cdb = refused_code page cdb ∷ unserved cdb ∷ wrong_length cdb ∷ reserved_bit cdb ∷ []
+cdb_rows page cdb = refused_code page cdb ∷ wrong_length cdb ∷ reserved_bit cdb ∷ []
 
 -- the rows that ask for the command's fields
 abbrev pub command_rows : TargetLimits → XorPage → Command → List ℕ → List (Option Sense)
@@ -190,12 +182,6 @@ abbrev pub refusal_of : TargetLimits → XorPage → List ℕ → List ℕ → O
 refusal_of limits page cdb bytes = first_some (cdb_rows page cdb ++ command_rows limits page (command_in cdb) bytes)
 
 -- ---- what else is known of an admitted command
-
--- the command is none of those that aren't served
-abbrev pub IsServed : Command → Type 0
-IsServed (Rebuild dpo fua intdata lba count list) = ⊥
-IsServed (Regenerate dpo fua intdata lba count list) = ⊥
-IsServed command = Unit {0}
 
 -- a MODE SENSE asks for values that are kept
 abbrev pub AsksForKept : Command → Type 0

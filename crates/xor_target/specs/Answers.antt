@@ -1,16 +1,18 @@
 -- The answer of a target to an order, and what the target is afterwards.
-use Rattle.std.specs.Prelude.{◌≡◌, ◌≤◌, ◌+◌, ◌*◌, ◌==◌, ℕ, Bool, true, false, max, List, [], ◌∷◌, ◌++◌, take, Option, Some, None, IfSome, MatchOption, if◌then◌else◌}
+use Rattle.std.specs.Prelude.{◌≡◌, ◌≤◌, ◌+◌, ◌*◌, ◌==◌, ℕ, Bool, true, false, max, List, [], ◌∷◌, ◌++◌, length, take, Option, Some, None, slice_get, IfSome, MatchOption, if◌then◌else◌}
 use Rattle.std.proofs.Common.{subst, lit<}
 use Rattle.blocks_core.specs.Lists.{slice}
 use Rattle.sense_data.specs.declared.senses.Pointer.{Pointer}
 use Rattle.sense_data.specs.declared.senses.Sense.{Sense}
 use Rattle.sbc_cdbs.specs.declared.descriptor.Cdb.{Cdb}
 use Rattle.sbc_cdbs.specs.Cdbs.{cdb_bytes, spelling}
+use Rattle.sbc_cdbs.specs.Kinds.{is_kept}
 use Rattle.sbc_cdbs.specs.declared.commands.Command.{Command}
 use Rattle.sbc_cdbs.specs.declared.commands.Command.TheVariants as sbc
+use Rattle.xor_params.specs.declared.sources.Descriptor.{Descriptor}
 use Rattle.xor_mode_page.specs.declared.pages.XorPage.{XorPage}
 use Rattle.xor_mode_page.specs.Pages as pages
-use Rattle.xor_buffers.specs.Held.{owners_of}
+use Rattle.xor_buffers.specs.Held.{owners_of, held_blocks}
 use Rattle.array_journal.specs.declared.entry.Entry.{Entry}
 use Rattle.array_journal.specs.declared.event.Event.{Event}
 use Rattle.array_journal.specs.declared.event.Event.TheVariants as events
@@ -24,13 +26,19 @@ use Rattle.xor_target.specs.declared.answer.Answer.TheVariants.{Good, Check, Gon
 use Rattle.xor_target.specs.Disks.{HasFailed}
 use Rattle.xor_target.specs.Logs.{last_stamp, drops_next}
 use Rattle.xor_target.specs.Admission.{command_in, row_of, count_of}
+use Rattle.xor_target.specs.Waits.{without_gatherings}
+use Rattle.xor_target.specs.Gathers.{GatheringState, IsFirst, done_order, read_request}
 use Rattle.xor_target.specs.State.{TargetState}
 use Rattle.xor_target.specs.Table.{early_answer}
-use Rattle.xor_target.specs.Effects.{Effect, effect_of, rewritten}
+use Rattle.xor_target.specs.Effects.{Effect, effect_of, bytes_back, rewritten}
 
--- the stamp of the next entry, by one who has seen stamps up to this one: one more than the greater of that and the last
+-- the greatest stamp here, or that one has seen
+abbrev pub newest_stamp : List Entry → ℕ → ℕ
+newest_stamp past seen = max (last_stamp past) seen
+
+-- the stamp of the next entry, by one who has seen stamps up to this one
 abbrev pub next_stamp : List Entry → ℕ → ℕ
-next_stamp past seen = max (last_stamp past) seen + 1
+next_stamp past seen = newest_stamp past seen + 1
 
 -- the next entry's name
 abbrev pub next_name : TargetState → ℕ → At
@@ -51,6 +59,8 @@ pub record IsDone (t : TargetState) (order : Order) (command : Command) (bytes :
   pub stood : IfSome t.contents (λ told. old ≡ slice told (row_of command * t.block) (count_of command * t.block))
   pub does : effect_of t.block order cdb t.held old (drops_next t.number t.past) command ≡ Some effect
   pub answers : bytes ≡ effect.answer
+  pub whole : length bytes ≡ bytes_back t.block command
+  pub fills : is_kept command ≡ true → held_blocks t.block after.held ≡ held_blocks t.block t.held + count_of command
   pub counted : t.faults ≤ after.faults
   pub grown : after ≡ record t {
     past = next_entry t order.stamp effect.event ∷ t.past;
@@ -64,7 +74,7 @@ abbrev pub loss_here : TargetState → ℕ → Event
 loss_here t call = events.Gone (life_of t.number t.past) call (owners_of t.held)
 
 -- The medium failed, and it isn't one that never fails: its count of failures rose, the disk is lost by one entry, and
--- nothing is held any more. What the medium holds isn't known.
+-- nothing is held or gathered any more. What the medium holds isn't known.
 pub record IsStruck (never_fails : Bool) (t : TargetState) (stamp : ℕ) (after : TargetState) : Type 0 where
   pub failed : HasFailed never_fails t.faults after.faults
   pub grown : after ≡ record t {
@@ -72,6 +82,7 @@ pub record IsStruck (never_fails : Bool) (t : TargetState) (stamp : ℕ) (after 
     held = [];
     contents = after.contents;
     faults = after.faults;
+    waiting = without_gatherings t.waiting;
   }
 
 -- what a target answers whose disk is lost by its next entry
@@ -137,7 +148,7 @@ fold_request number name order row count target delta = record { from = number; 
 -- stands; or the medium failed.
 pub data IsSent (never_fails : Bool) (t : TargetState) (order : Order) (command : Command) (second count address : ℕ) (answer : Answer) (after : TargetState) : Type 0 where
   Sends : (delta : List ℕ) (done : TargetState) → drops_next t.number t.past ≡ false → IsDone t order command delta done →
-      after ≡ record done { waiting = t.waiting ++ record { owner = order.owner; made = next_name t order.stamp ∷ [] } ∷ [] } →
+      after ≡ record done { waiting = t.waiting ++ record { owner = order.owner; made = next_name t order.stamp ∷ []; gathering = None } ∷ [] } →
       answer ≡ Peer (fold_request t.number (next_name t order.stamp) order second count address delta) (next_name t order.stamp ∷ []) → IsSent never_fails t order command second count address answer after
   Drops : (delta : List ℕ) → drops_next t.number t.past ≡ true → IsDone t order command delta after →
       answer ≡ Check communication_failure (next_name t order.stamp ∷ []) (Some (next_name t order.stamp)) →
@@ -145,11 +156,24 @@ pub data IsSent (never_fails : Bool) (t : TargetState) (order : Order) (command 
   Loses : IsStruck never_fails t order.stamp after → answer ≡ lost_now t order.stamp (discarded_at t.number order.owner after.past) →
       IsSent never_fails t order command second count address answer after
 
+-- A REBUILD or REGENERATE without sources is done at once; one with sources waits for what it gathers, and asks the first of them.
+pub data IsGathered (never_fails : Bool) (t : TargetState) (order : Order) (command : Command) (answer : Answer) (after : TargetState) : Type 0 where
+  Alone : (g : GatheringState) → IsFirst t.block order command g → g.sources ≡ [] → IsActed never_fails t (done_order g [] order.stamp) command answer after →
+      IsGathered never_fails t order command answer after
+  Begins : (g : GatheringState) (source : Descriptor) → IsFirst t.block order command g → slice_get g.sources 0 ≡ Some source →
+      answer ≡ Peer (read_request t.number (newest_stamp t.past order.stamp) g source) [] →
+      after ≡ record t { waiting = t.waiting ++ record { owner = order.owner; made = []; gathering = Some g } ∷ [] } →
+      IsGathered never_fails t order command answer after
+
 abbrev pub IsExecuted : Bool → TargetState → Order → Answer → TargetState → Command → Type 0
 IsExecuted never_fails t order answer after (sbc.ModeSense dbd pc page allocation) = IsSensed t pc allocation answer after
 IsExecuted never_fails t order answer after (sbc.ModeSelect pf sp list) = IsSelected t order answer after
 IsExecuted never_fails t order answer after (sbc.XdWriteExtended dpo fua disable lba second count address) =
     IsSent never_fails t order (sbc.XdWriteExtended dpo fua disable lba second count address) second count address answer after
+IsExecuted never_fails t order answer after (sbc.Rebuild dpo fua intdata lba count list) =
+    IsGathered never_fails t order (sbc.Rebuild dpo fua intdata lba count list) answer after
+IsExecuted never_fails t order answer after (sbc.Regenerate dpo fua intdata lba count list) =
+    IsGathered never_fails t order (sbc.Regenerate dpo fua intdata lba count list) answer after
 IsExecuted never_fails t order answer after command = IsActed never_fails t order command answer after
 
 -- The answer to an order, and the target afterwards. Want of memory comes only where the command would be done; it, and what is

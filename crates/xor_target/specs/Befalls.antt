@@ -12,6 +12,7 @@ use Rattle.xor_target.specs.declared.answer.Answer.{Answer}
 use Rattle.xor_target.specs.declared.answer.Answer.TheVariants.{Good, Memory}
 use Rattle.xor_target.specs.declared.answer.ShutAnswer.{ShutAnswer}
 use Rattle.xor_target.specs.declared.answer.GoneAt.{GoneAt}
+use Rattle.xor_target.specs.Waits.{without_gatherings, without_gathering}
 use Rattle.xor_target.specs.State.{TargetState}
 use Rattle.xor_target.specs.Answers.{next_entry, next_name, loss_here, lost_now, IsStruck}
 
@@ -19,7 +20,7 @@ use Rattle.xor_target.specs.Answers.{next_entry, next_name, loss_here, lost_now,
 abbrev pub shut_event : TargetState → ℕ → At → Event
 shut_event t owner opened = events.Shut owner opened (has_acted t.number owner t.past) (loss_of t.number t.past)
 
--- an owner is shut: its held blocks are let go
+-- an owner is shut: its held blocks are let go, and its gathering ends
 pub record IsShut (t : TargetState) (owner : ℕ) (opened : At) (seen : ℕ) (answer : ShutAnswer) (after : TargetState) : Type 0 where
   pub says : answer ≡ record {
     at = next_name t seen;
@@ -30,14 +31,15 @@ pub record IsShut (t : TargetState) (owner : ℕ) (opened : At) (seen : ℕ) (an
   pub grown : after ≡ record t {
     past = next_entry t seen (shut_event t owner opened) ∷ t.past;
     held = filter (λ h. not (h.owner == owner)) t.held;
+    waiting = without_gathering owner t.waiting;
   }
 
--- the disk is lost, and all that is held with it; also where it was lost before
+-- the disk is lost, and all that is held and gathered with it; also where it was lost before
 pub record IsLost (t : TargetState) (call seen : ℕ) (answer : GoneAt) (after : TargetState) : Type 0 where
   pub says : answer ≡ record { at = next_name t seen; life = life_of t.number t.past }
-  pub grown : after ≡ record t { past = next_entry t seen (loss_here t call) ∷ t.past; held = [] }
+  pub grown : after ≡ record t { past = next_entry t seen (loss_here t call) ∷ t.past; held = []; waiting = without_gatherings t.waiting }
 
--- the buffer is reset
+-- the buffer is reset; what is gathered stays
 abbrev pub reset_event : TargetState → ℕ → Event
 reset_event t call = events.Wiped Buffers call (owners_of t.held)
 
@@ -53,7 +55,8 @@ pub record IsDropping (t : TargetState) (call seen : ℕ) (at : At) (after : Tar
   pub says : at ≡ next_name t seen
   pub grown : after ≡ record t { past = next_entry t seen (drop_event call) ∷ t.past }
 
--- a fresh disk came: zeros, nothing held, and the first mode page
+-- A fresh disk came: zeros, nothing held, and the first mode page. What is gathered stays; where a disk was lost before,
+-- nothing is.
 pub record IsFresh (t : TargetState) (call : ℕ) (swap : At) (seen : ℕ) (after : TargetState) : Type 0 where
   pub counted : t.faults ≤ after.faults
   pub grown : after ≡ record t {

@@ -1,17 +1,16 @@
 -- What the decoder's answer decides of the rows of a CDB.
-use Rattle.std.specs.Prelude.{ℕ, ◌||◌, ◌&&◌, Bool, false, List, [], ◌∷◌, Some, None}
+use Rattle.std.specs.Prelude.{ℕ, ◌&&◌, Bool, false, List, [], ◌∷◌, Some, None}
 use Rattle.sense_data.specs.declared.senses.Sense.{Sense}
 use Rattle.sense_data.specs.Illegal.{illegal, in_cdb}
 use Rattle.sbc_cdbs.specs.declared.decoding.CdbFault.{CdbFault}
 use Rattle.sbc_cdbs.specs.declared.decoding.CdbFault.TheVariants.{OpCode, Length, Bits}
 use Rattle.sbc_cdbs.specs.Kinds.{is_xor_code}
 use Rattle.xor_mode_page.specs.declared.pages.XorPage.{XorPage}
-use Rattle.xor_target.specs.Admission.{is_unserved}
 
--- no target serves the code, or the page forbids it
+-- the page forbids the code
 abbrev pub is_shut_out : XorPage → List ℕ → Bool
 is_shut_out page [] = false
-is_shut_out page (code ∷ cdb) = (page.xordis && is_xor_code code) || is_unserved code
+is_shut_out page (code ∷ cdb) = page.xordis && is_xor_code code
 
 -- the sense of a fault of a CDB
 abbrev pub fault_sense : CdbFault → Sense

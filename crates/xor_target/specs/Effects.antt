@@ -43,7 +43,7 @@ read_effect order cdb held old lba = record {
   answer = old;
 }
 
--- WRITE writes the data sent
+-- WRITE writes the data sent, and REBUILD what was gathered
 abbrev pub write_effect : Order → Cdb → List HeldBlocks → ℕ → Effect
 write_effect order cdb held lba = record {
   event = Put order.owner order.opened cdb lba order.bytes order.names;
@@ -61,7 +61,7 @@ xdwrite_effect order cdb held old lba = record {
   answer = [];
 }
 
--- with DISABLE WRITE it holds the same, and writes nothing
+-- with DISABLE WRITE it holds the same, and writes nothing; REGENERATE holds the old data exclusive-or what was gathered
 abbrev pub xdwrite_disabled_effect : Order → Cdb → List HeldBlocks → List ℕ → ℕ → Effect
 xdwrite_disabled_effect order cdb held old lba = record {
   event = Hold order.owner order.opened cdb lba (xor old order.bytes) true order.names false;
@@ -124,8 +124,8 @@ xdread_effect block order cdb held lba len = record {
   answer = bytes_taken block lba len held;
 }
 
--- What a command does with its blocks, where a request of it would be dropped or not. The MODE commands have none; the
--- commands that ask other targets for blocks aren't served.
+-- What a command does with its blocks, where a request of it would be dropped or not; the order of a REBUILD or
+-- REGENERATE has by then what was gathered. The MODE commands have no blocks.
 abbrev pub effect_of : ℕ → Order → Cdb → List HeldBlocks → List ℕ → Bool → Command → Option Effect
 effect_of block order cdb held old dropped (Read dpo fua lba count) = Some (read_effect order cdb held old lba)
 effect_of block order cdb held old dropped (Write dpo fua lba count) = Some (write_effect order cdb held lba)
@@ -142,8 +142,23 @@ effect_of block order cdb held old dropped (XdWriteExtended dpo fua false lba se
     Some (xdwrite_extended_effect order cdb held old dropped lba)
 effect_of block order cdb held old dropped (XdWriteExtended dpo fua true lba second count address) =
     Some (xdwrite_extended_disabled_effect order cdb held old lba)
-effect_of block order cdb held old dropped (Rebuild dpo fua intdata lba count list) = None
-effect_of block order cdb held old dropped (Regenerate dpo fua intdata lba count list) = None
+effect_of block order cdb held old dropped (Rebuild dpo fua intdata lba count list) = Some (write_effect order cdb held lba)
+effect_of block order cdb held old dropped (Regenerate dpo fua intdata lba count list) =
+    Some (xdwrite_disabled_effect order cdb held old lba)
+
+-- how many bytes a command answers, or sends to another target: its blocks, where it answers any
+abbrev pub bytes_back : ℕ → Command → ℕ
+bytes_back block (Read dpo fua lba count) = count * block
+bytes_back block (Write dpo fua lba count) = 0
+bytes_back block (XdWrite dpo fua disable lba count) = 0
+bytes_back block (XpWrite dpo fua lba count) = 0
+bytes_back block (XdRead lba count) = count * block
+bytes_back block (XdWriteRead dpo fua disable lba count) = count * block
+bytes_back block (ModeSelect pf sp list) = 0
+bytes_back block (ModeSense dbd pc page allocation) = 0
+bytes_back block (XdWriteExtended dpo fua disable lba second count address) = count * block
+bytes_back block (Rebuild dpo fua intdata lba count list) = 0
+bytes_back block (Regenerate dpo fua intdata lba count list) = 0
 
 -- a medium's bytes, where they are told, with what an effect writes from a row on
 abbrev pub rewritten : ℕ → ℕ → Option (List ℕ) → Option (List ℕ) → Option (List ℕ)

@@ -4,6 +4,7 @@ pub mod Logs
 pub mod Facts
 pub mod Disks
 pub mod Ways
+pub mod Gathers
 pub mod Waits
 pub mod State
 pub mod Table

@@ -1,5 +1,6 @@
 -- A row of targets that carries requests between them at once.
-use Rattle.std.specs.Prelude.{◌≡◌, ◌≢◌, ◌<◌, ℕ, zero, suc, Bool, true, false, max, List, [], ◌∷◌, length, Option, Some, None, slice_get, slice_set}
+use Rattle.std.specs.Prelude.{◌≡◌, ◌≢◌, ◌<◌, ◌≤◌, ◌-◌, ℕ, zero, suc, Bool, true, false, max, List, [], ◌∷◌, length, Option, Some, None, option_map, unwrap_or, slice_get, slice_set}
+use Rattle.std.specs.List.{AllByRecursion}
 use Rattle.array_journal.specs.declared.at.At.{At}
 use Rattle.sbc_cdbs.specs.declared.commands.Command.{Command}
 use Rattle.sbc_cdbs.specs.declared.commands.Command.TheVariants.{Read, Write, XdWrite, XpWrite, XdRead, XdWriteRead, ModeSelect, ModeSense, XdWriteExtended, Rebuild, Regenerate}
@@ -9,10 +10,15 @@ use Rattle.xor_target.specs.declared.answer.Answer.{Answer}
 use Rattle.xor_target.specs.declared.answer.Answer.TheVariants.{Good, Check, Gone, Shut, Peer, Memory}
 use Rattle.xor_target.specs.declared.answer.PeerBack.{PeerBack}
 use Rattle.xor_target.specs.declared.answer.PeerBack.TheVariants as back
-use Rattle.xor_target.specs.Admission.{command_in}
+use Rattle.sbc_cdbs.specs.Cdbs.{spelling}
+use Rattle.xor_params.specs.declared.sources.Descriptor.{Descriptor}
+use Rattle.xor_target.specs.declared.waiting.Waiting.{Waiting}
+use Rattle.xor_target.specs.Admission.{command_in, count_of}
+use Rattle.xor_target.specs.Gathers.{GatheringState}
+use Rattle.xor_target.specs.Waits.{waiting_of}
 use Rattle.xor_target.specs.State.{TargetState, is_waiting}
 use Rattle.xor_target.specs.Answers.{IsAnswered}
-use Rattle.xor_target.specs.Resumes.{IsResumed}
+use Rattle.xor_target.specs.Resumes.{IsResumed, IsFitting, ended_answer}
 
 -- ---- a row
 
@@ -129,10 +135,29 @@ pub record WaitsAlone (k owner : ℕ) (ts : List TargetState) : Type 0 where
   pub waits : (t : TargetState) → slice_get ts k ≡ Some t → is_waiting t owner ≡ true
   pub others : (j : ℕ) (t : TargetState) → slice_get ts j ≡ Some t → j ≢ k → is_waiting t owner ≡ false
 
+-- A gathering of target `from` that goes on in a row of so many targets with blocks of this size: it still asks a source,
+-- each source is another target, and the request is that the one it asks be read.
+pub record GoesOn (request : PeerRequest) (many size : ℕ) (g : GatheringState) : Type 0 where
+  pub asks : g.answered < length g.sources
+  pub others : AllByRecursion (λ (d : Descriptor). (d.target < many) × (d.target ≢ request.from)) g.sources
+  pub block : g.gather.block ≡ size
+  pub count : g.gather.count ≡ count_of g.admitted.command
+  pub few : count_of g.admitted.command ≤ 65535
+  pub own : g.order.owner ≡ request.order.owner
+  pub lba : ℕ
+  pub reads : request.order.cdb ≡ spelling (Read false false lba (count_of g.admitted.command))
+
+-- the same of the target's command, if that gathers; and its owner wasn't shut, nor the disk lost
+abbrev pub IsGoingOn : PeerRequest → ℕ → TargetState → Type 0
+IsGoingOn request many t =
+    (w : Waiting) (g : GatheringState) → waiting_of request.order.owner t.waiting ≡ Some w → w.gathering ≡ Some g →
+    (ended_answer t request.order.owner ≡ None) × GoesOn request many t.block g
+
 -- the target that asked waits alone in its row
 pub record IsPending (request : PeerRequest) (ts : List TargetState) : Type 0 where
   pub row : IsRow ts
   pub alone : WaitsAlone request.from request.order.owner ts
+  pub goes_on : (t : TargetState) → slice_get ts request.from ≡ Some t → IsGoingOn request (length ts) t
 
 -- A request can be carried: it is for another target of the row than the one that asks, which alone waits, and its command
 -- asks no further target.
@@ -156,12 +181,36 @@ IsLeft owner (Gone at life loss) ts = IsIdle owner ts
 IsLeft owner (Shut at) ts = IsIdle owner ts
 IsLeft owner Memory ts = IsIdle owner ts
 
--- what is handed back leaves behind: a row in which no target waits for the owner; or, where it wants memory, which it never
--- does for a failure, the one that asked still waits
+-- what is handed back leaves behind: a row in which no target waits for the owner; or a further request that can be carried,
+-- or, where it wants memory, the one that asked, which still waits. Neither comes of a failure.
 abbrev pub IsLeftBy : PeerRequest → PeerBack → Answer → List TargetState → Type 0
 IsLeftBy request peer Memory ts = IsPending request ts × (peer ≢ back.Failed)
-IsLeftBy request peer (Peer further made) ts = ⊥
+IsLeftBy request peer (Peer further made) ts = (peer ≢ back.Failed) × IsRequest further ts × (further.order.owner ≡ request.order.owner)
 IsLeftBy request peer (Good bytes made) ts = IsIdle request.order.owner ts
 IsLeftBy request peer (Check sense made loss) ts = IsIdle request.order.owner ts
 IsLeftBy request peer (Gone at life loss) ts = IsIdle request.order.owner ts
 IsLeftBy request peer (Shut at) ts = IsIdle request.order.owner ts
+
+-- what is handed back is as many bytes as the gathering that asked for them takes
+abbrev pub IsFittingIn : PeerRequest → PeerBack → List TargetState → Type 0
+IsFittingIn request peer ts = (t : TargetState) → slice_get ts request.from ≡ Some t → IsFitting t request.order.owner peer
+
+-- ---- how many requests are still to be carried
+
+-- of a command that waits: one, or one for each source that hasn't answered
+abbrev pub requests_left : Option GatheringState → ℕ
+requests_left None = 1
+requests_left (Some g) = length g.sources - g.answered
+
+-- of an owner's command at a target, if it waits there
+abbrev pub requests_of : ℕ → TargetState → ℕ
+requests_of owner t = unwrap_or (option_map (λ w. requests_left w.gathering) (waiting_of owner t.waiting)) 0
+
+-- and after this was said: of the command whose request it is
+abbrev pub still_asked : Answer → List TargetState → ℕ
+still_asked (Peer request made) ts = unwrap_or (option_map (requests_of request.order.owner) (slice_get ts request.from)) 0
+still_asked (Good bytes made) ts = 0
+still_asked (Check sense made loss) ts = 0
+still_asked (Gone at life loss) ts = 0
+still_asked (Shut at) ts = 0
+still_asked Memory ts = 0

@@ -1,8 +1,10 @@
 -- What is seen of a target, and that its disk is what its entries say.
-use Rattle.std.specs.Prelude.{◌≡◌, ◌==◌, ◌≤◌, ◌+◌, ℕ, Bool, true, false, List, [], ◌∷◌, Option, is_some, IfSome, if◌then◌else◌}
+use Rattle.std.specs.Prelude.{◌≡◌, ◌==◌, ◌≤◌, ◌+◌, ℕ, Bool, true, false, List, [], ◌∷◌, Option, None, is_some, IfSome, if◌then◌else◌}
+use Rattle.std.specs.List.{AllByRecursion}
 use Rattle.stripe_layout.specs.declared.mode.Mode.TheVariants.{Supervised}
 use Rattle.xor_mode_page.specs.declared.pages.XorPage.{XorPage}
 use Rattle.xor_buffers.specs.declared.held.HeldBlocks.{HeldBlocks}
+use Rattle.xor_buffers.specs.Held.{overlap_of, held_blocks}
 use Rattle.array_journal.specs.declared.entry.Entry.{Entry}
 use Rattle.array_journal.specs.declared.event.Event.{Event}
 use Rattle.array_journal.specs.declared.event.Event.TheVariants.{Gone, Fresh}
@@ -13,7 +15,8 @@ use Rattle.xor_target.specs.declared.limits.TargetLimits.{TargetLimits}
 use Rattle.xor_target.specs.Disks.{DiskState}
 use Rattle.xor_target.specs.Logs.{Logged}
 use Rattle.xor_target.specs.declared.waiting.Waiting.{Waiting}
-use Rattle.xor_target.specs.Waits.{waiting_of}
+use Rattle.xor_target.specs.Gathers.{IsUnderWayIf}
+use Rattle.xor_target.specs.Waits.{waiting_of, sets_aside, row_aside, count_aside, overlaps_aside, aside_blocks}
 
 -- A target: its number, how many targets there are, the bytes of a block, its rows, the blocks that its buffer may hold,
 -- its first mode page and the one that it has now, its entries with the newest first, the blocks that it holds, the bytes
@@ -94,8 +97,23 @@ pub record IsRecorded (t : TargetState) (bytes : List ℕ) : Type 0 where
   pub held : t.held ≡ recorded_held t
   pub media : has_failed t.number t.past ≡ false → bytes ≡ recorded_media t
 
+-- rows that are set aside are apart from those of the others behind
+abbrev pub AreApart : List Waiting → Type 0
+AreApart [] = Unit {0}
+AreApart (w ∷ ws) = (sets_aside w.gathering ≡ true → overlaps_aside (row_aside w.gathering) (count_aside w.gathering) ws ≡ false) × AreApart ws
+
+-- What is set aside is free and finds room: no row of it is held, none is set aside twice, and the blocks that are held and
+-- those that are set aside are no more than the buffer may hold.
+pub record IsAsideFree (block capacity : ℕ) (held : List HeldBlocks) (ws : List Waiting) : Type 0 where
+  pub free : AllByRecursion (λ (w : Waiting). sets_aside w.gathering ≡ true → overlap_of block (row_aside w.gathering) (count_aside w.gathering) held ≡ None) ws
+  pub apart : AreApart ws
+  pub room : held_blocks block held + aside_blocks ws ≤ capacity
+
 -- A target whose medium tells its bytes is what its entries say, and no more losses of no call stand here than the medium
 -- counts failures.
 pub record IsTarget (t : TargetState) : Type 0 where
+  pub some : 1 ≤ t.block
   pub recorded : IfSome t.contents (IsRecorded t)
   pub failures : count_at (t.number + 1) is_failure t.past ≤ t.faults
+  pub aside : IsAsideFree t.block t.buffer t.held t.waiting
+  pub gathers : AllByRecursion (λ (w : Waiting). IsUnderWayIf t.block t.rows w.owner w.gathering) t.waiting

@@ -1,5 +1,5 @@
 -- What a target says to an order before it does anything: the rows of one table, in the order in which they are tested.
-use Rattle.std.specs.Prelude.{◌==◌, ◌&&◌, ◌-◌, ◌*◌, nat_lt, ℕ, Bool, true, false, List, [], ◌∷◌, Option, Some, None, option_map, is_none, is_some}
+use Rattle.std.specs.Prelude.{◌==◌, ◌&&◌, ◌||◌, ◌-◌, ◌*◌, nat_lt, ℕ, Bool, true, false, List, [], ◌∷◌, Option, Some, None, option_map, is_none, is_some}
 use Rattle.std.specs.Bool.{then_some}
 use Rattle.sense_data.specs.declared.senses.Sense.{Sense}
 use Rattle.sense_data.specs.Illegal.{illegal, in_cdb}
@@ -14,6 +14,7 @@ use Rattle.xor_target.specs.declared.order.Order.{Order}
 use Rattle.xor_target.specs.declared.answer.Answer.{Answer}
 use Rattle.xor_target.specs.declared.answer.Answer.TheVariants.{Good, Check, Gone, Shut}
 use Rattle.xor_target.specs.Admission.{refusal_of, command_in, row_of, count_of}
+use Rattle.xor_target.specs.Waits.{overlaps_aside, aside_blocks}
 use Rattle.xor_target.specs.State.{TargetState, limits_of}
 
 -- the first answer there is
@@ -66,15 +67,17 @@ gone_row t owner = option_map (λ at. Gone at (life_of t.number t.past) (loss_fo
 abbrev pub idle_row : Command → Option Answer
 idle_row command = then_some (is_no_blocks (block_count command)) (Good [] [])
 
--- a command that would hold rows of which one is held: COMMAND SEQUENCE ERROR
+-- a command that would hold rows of which one is held or set aside: COMMAND SEQUENCE ERROR
 abbrev pub overlap_row : TargetState → Order → Command → Option Answer
 overlap_row t order command =
-    then_some (is_kept command && is_some (overlap_of t.block (row_of command) (count_of command) t.held)) (check t order (illegal 0x2c 0 None))
+    then_some
+    (is_kept command && (is_some (overlap_of t.block (row_of command) (count_of command) t.held) || overlaps_aside (row_of command) (count_of command) t.waiting))
+    (check t order (illegal 0x2c 0 None))
 
--- a command that would hold more blocks than there is room for: SYSTEM BUFFER FULL
+-- a command that would hold more blocks than there is room for that isn't set aside: SYSTEM BUFFER FULL
 abbrev pub room_row : TargetState → Order → Command → Option Answer
 room_row t order command =
-    then_some (is_kept command && nat_lt (t.buffer - held_blocks t.block t.held) (count_of command)) (check t order (illegal 0x55 1 None))
+    then_some (is_kept command && nat_lt (t.buffer - held_blocks t.block t.held - aside_blocks t.waiting) (count_of command)) (check t order (illegal 0x55 1 None))
 
 -- an XDREAD of rows that no one held piece contains: INVALID FIELD IN CDB, at the LBA
 abbrev pub unheld_row : TargetState → Order → Command → Option Answer

@@ -4,7 +4,7 @@
 ghost use Rattle.std.specs.Prelude.{◌≡◌, ◌≤◌, ◌+◌, length, Some, None, IfOk, IfErr};
 ghost use Rattle.sense_data.specs.Illegal.{illegal, in_cdb};
 ghost use Rattle.sbc_cdbs.specs.Cdbs.{SpellsCdb, cdb_bytes};
-ghost use Rattle.xor_target.specs.Admission.{first_some, command_in, row_of, count_of, maximum_of, is_over, too_long, wrong_secondary, wrong_select, saved_values, unknown_page, is_unserved, out_of_range, data_due, wrong_amount, wrong_list, cdb_rows, command_rows, refusal_of, IsServed, AsksForKept, HasSoundList};
+ghost use Rattle.xor_target.specs.Admission.{first_some, command_in, row_of, count_of, maximum_of, is_over, too_long, wrong_secondary, wrong_select, saved_values, unknown_page, out_of_range, data_due, wrong_amount, wrong_list, cdb_rows, command_rows, refusal_of, AsksForKept, HasSoundList};
 ghost use Rattle.xor_target.specs.Codes.{is_shut_out, fault_sense};
 
 mod lists;
@@ -50,7 +50,6 @@ pub fn admit(
     ensures decoded { IfOk result (λ a. SpellsCdb cdb.now a.command) }
     ensures fields { IfOk result (λ a. a.command ≡ command_in cdb.now) }
     ensures same { IfOk result (λ a. cdb_bytes a.cdb ≡ cdb.now) }
-    ensures served { IfOk result (λ a. IsServed a.command) }
     ensures counted { IfOk result (λ a. count_of a.command ≤ 65535) }
     ensures in_range { IfOk result (λ a. row_of a.command + count_of a.command ≤ limits.now.rows) }
     ensures due { IfOk result (λ a. length bytes.now ≡ data_due limits.now.block a.command) }
@@ -74,7 +73,6 @@ fn decoded(page: &XorPage, cdb: &[u8]) -> Result<Command, Sense>
     ensures spelt { IfOk result (SpellsCdb cdb.now) }
     ensures passes { IfOk result (λ _. first_some (cdb_rows page.now cdb.now) ≡ None) }
     ensures refused { IfErr result (λ sense. first_some (cdb_rows page.now cdb.now) ≡ Some sense) }
-    ensures served { IfOk result IsServed }
 {
     // Before the decoder, which would find a wrong length first.
     if is_shut_out(page, cdb) {
@@ -86,22 +84,14 @@ fn decoded(page: &XorPage, cdb: &[u8]) -> Result<Command, Sense>
     }
 }
 
-/// Whether the operation code is that of a command that no target serves yet, or of an XOR command while the
-/// page forbids these (XORDIS).
+/// Whether the operation code is that of an XOR command while the page forbids these (XORDIS).
 fn is_shut_out(page: &XorPage, cdb: &[u8]) -> bool
     ensures { result ≡ is_shut_out page.now cdb.now }
 {
     match cdb {
         [] => false,
-        [code, ..] => page.xordis && is_xor_code(*code) || is_unserved(*code),
+        [code, ..] => page.xordis && is_xor_code(*code),
     }
-}
-
-/// REBUILD and REGENERATE.
-fn is_unserved(code: u8) -> bool
-    ensures { result ≡ is_unserved code }
-{
-    matches!(code, 0x81 | 0x82)
 }
 
 fn fault_sense(fault: CdbFault) -> Sense

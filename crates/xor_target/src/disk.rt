@@ -131,7 +131,8 @@ impl<M: Medium + Drop> Disk<M> {
         requires rows { row + count ≤ 2 ^ 32 }
         requires free { overlap_of self.old.block row count self.old.buffer.list ≡ None }
         requires room { nat_lt (self.old.buffer.capacity - held_blocks self.old.block self.old.buffer.list) count ≡ false }
-        ensures { self.new ≡ record self.old { buffer = record self.old.buffer { list = self.old.buffer.list ++ record { owner = owner; row = row; bytes = bytes.now } ∷ [] } } }
+        ensures held { self.new ≡ record self.old { buffer = record self.old.buffer { list = self.old.buffer.list ++ record { owner = owner; row = row; bytes = bytes.now } ∷ [] } } }
+        ensures fills { held_blocks self.old.block self.new.buffer.list ≡ held_blocks self.old.block self.old.buffer.list + count }
     {
         self.buffer.hold(owner, row, bytes).unwrap();
     }

@@ -7,6 +7,7 @@ mod admission;
 mod answer;
 mod disk;
 mod failure;
+mod gathering;
 mod limits;
 mod log;
 mod logged_disk;

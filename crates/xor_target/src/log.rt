@@ -110,7 +110,14 @@ impl TargetLog {
         ensures ok { IfOk result (λ stamp. stamp ≡ max (last_stamp self.now.past) given + 1) }
         ensures err { OnErr result (2 ^ 64 ≤ max (last_stamp self.now.past) given + 1) }
     {
-        self.facts.last.max(given).checked_add(1).ok_or(Memory)
+        self.newest(given).checked_add(1).ok_or(Memory)
+    }
+
+    /// The greatest stamp here, or the one given.
+    pub fn newest(&self, given: u64) -> u64
+        ensures { result ≡ max (last_stamp self.now.past) given }
+    {
+        self.facts.last.max(given)
     }
 
     /// The entry that shut an owner here.

@@ -7,6 +7,7 @@ ghost use Rattle.array_journal.specs.declared.event.Event.TheVariants as events;
 ghost use Rattle.xor_buffers.specs.Held.{owners_of};
 ghost use Rattle.xor_target.specs.Logs.{last_stamp};
 ghost use Rattle.xor_target.specs.Acts.{IsPrepared};
+ghost use Rattle.xor_target.specs.Answers.{next_stamp};
 
 mod acting;
 mod befalling;
@@ -54,6 +55,16 @@ impl<M: Medium + Drop> LoggedDisk<M> {
             stamp,
             made,
             owners,
+        })
+    }
+
+    /// The name of the next entry, by one who has seen stamps up to this one.
+    pub fn next_name(&self, seen: u64) -> Result<At, Memory>
+        ensures { IfOk result (λ name. name ≡ record { stamp = next_stamp self.now.log.past seen; lock = self.now.log.number + 1 }) }
+    {
+        Ok(At {
+            stamp: self.log.next_stamp(seen)?,
+            lock: self.log.number() + 1,
         })
     }
 

@@ -1,5 +1,7 @@
 //! A logical unit (SBC): a disk with its log, and the commands that wait there for other targets.
 
+mod befalling;
+mod gathering;
 mod sending;
 
 use crate::logged_disk::LoggedDisk;

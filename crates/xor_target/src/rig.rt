@@ -1,11 +1,12 @@
 //! A row of targets, in which requests to other targets are carried at once.
 
-ghost use Rattle.std.specs.Prelude.{◌≡◌, ◌<◌, false, length};
+ghost use Rattle.std.specs.Prelude.{◌≡◌, ◌<◌, false, length, Some};
 ghost use Rattle.std.specs.Borrow.{sem};
-ghost use Rattle.xor_target.specs.Rigs.{IsRow, Turns, IsRigAnswer, IsCarried, IsAsked, IsHanded, IsRequest, IsPending, IsIdle, IsLeft, IsLeftBy, asks_further, handed_back, greatest_stamp, stamp_with};
+ghost use Rattle.xor_target.specs.Rigs.{IsRow, Turns, IsRigAnswer, IsCarried, IsAsked, IsHanded, IsRequest, IsPending, IsIdle, IsLeft, IsLeftBy, IsFittingIn, asks_further, handed_back, greatest_stamp, stamp_with};
 ghost use Rattle.xor_target.specs.Answers.{IsAnswered};
 ghost use Rattle.xor_target.specs.declared.answer.Answer.{Answer};
 ghost use Rattle.xor_target.specs.declared.answer.Answer.TheVariants as answers;
+ghost use Rattle.xor_target.specs.declared.answer.PeerBack.{PeerBack};
 ghost use Rattle.xor_target.specs.declared.answer.PeerBack.TheVariants as back;
 
 use crate::answer::{Answer, PeerBack};
@@ -42,7 +43,7 @@ impl<M: Medium + Drop> Rig<M> {
         Rig { targets }
     }
 
-    /// What target `number` answers to an order in the end: a request that it makes on the way is carried to the
+    /// What target `number` answers to an order in the end: each request that it makes on the way is carried to the
     /// target that it asks, and back what that answers. No target waits for the order's owner before or after.
     pub fn run(&mut self, alloc: Global, number: u8, order: &Order) -> Answer
         requires number { number < length self.old }
@@ -51,9 +52,12 @@ impl<M: Medium + Drop> Rig<M> {
         ensures last { asks_further result ≡ false }
         ensures idle { IsIdle order.now.owner self.new }
     {
-        match self.execute(alloc, number, order) {
-            Answer::Peer { request, .. } => self.carry(alloc, &request),
-            answer => answer,
+        let mut said = self.execute(alloc, number, order);
+        'requests: loop {
+            match said {
+                Answer::Peer { request, .. } => said = self.carry(alloc, &request),
+                answer => return answer,
+            }
         }
     }
 
@@ -71,8 +75,7 @@ impl<M: Medium + Drop> Rig<M> {
     fn carry(&mut self, alloc: Global, request: &PeerRequest) -> Answer
         requires { IsRequest request.now self.old }
         ensures carried { IsCarried M.NEVER_FAILS request.now result self.old self.new }
-        ensures last { asks_further result ≡ false }
-        ensures idle { IsIdle request.now.order.owner self.new }
+        ensures left { IsLeft request.now.order.owner result self.new }
     {
         let said = self.ask(alloc, request);
         let Some(back) = handed_back(said) else {
@@ -90,6 +93,7 @@ impl<M: Medium + Drop> Rig<M> {
         ensures asked { IsAsked M.NEVER_FAILS request.now result self.old self.new }
         ensures last { asks_further result ≡ false }
         ensures pending { IsPending request.now self.new }
+        ensures fits { (peer : PeerBack) → handed_back result ≡ Some peer → IsFittingIn request.now peer self.new }
     {
         self.targets[request.to as usize].execute(alloc, &request.order)
     }
@@ -107,7 +111,8 @@ impl<M: Medium + Drop> Rig<M> {
 
     /// The target that asked goes on with what is handed back.
     fn hand(&mut self, alloc: Global, request: &PeerRequest, back: &PeerBack) -> Answer
-        requires { IsPending request.now self.old }
+        requires pending { IsPending request.now self.old }
+        requires fits { IsFittingIn request.now back.now self.old }
         ensures handed { IsHanded M.NEVER_FAILS request.now back.now result self.old self.new }
         ensures left { IsLeftBy request.now back.now result self.new }
     {

@@ -3,7 +3,7 @@
 ghost use Rattle.std.specs.Prelude.{◌≡◌, ℕ, List, IfOk, OnErr};
 ghost use Rattle.sbc_cdbs.specs.Cdbs.{cdb_bytes};
 ghost use Rattle.xor_mode_page.specs.declared.pages.XorPage.{XorPage};
-ghost use Rattle.xor_target.specs.Acts.{IsPossible, IsFewWhereGone};
+ghost use Rattle.xor_target.specs.Acts.{IsPossible, IsFewWhereGone, waiting_left};
 ghost use Rattle.xor_target.specs.Answers.{IsActed};
 ghost use Rattle.xor_target.specs.State.{state_of};
 ghost use Rattle.xor_target.specs.declared.waiting.Waiting.{Waiting};
@@ -28,7 +28,7 @@ impl<M: Medium + Drop> LoggedDisk<M> {
     ) -> Result<Answer, Memory>
         requires sent { cdb_bytes admitted.now.cdb ≡ order.now.cdb }
         requires possible { IsPossible self.old.disk order.now admitted.now.command }
-        ensures acted { IfOk result (λ answer. (targets : ℕ) (first page : XorPage) (waiting : List Waiting) → IsActed M.NEVER_FAILS (state_of targets first page waiting self.old.disk self.old.log) order.now admitted.now.command answer (state_of targets first page waiting self.new.disk self.new.log)) }
+        ensures acted { IfOk result (λ answer. (targets : ℕ) (first page : XorPage) (waiting : List Waiting) → IsActed M.NEVER_FAILS (state_of targets first page waiting self.old.disk self.old.log) order.now admitted.now.command answer (state_of targets first page (waiting_left answer waiting) self.new.disk self.new.log)) }
         ensures few { IfOk result (IsFewWhereGone self.new.log.past) }
         ensures memory { OnErr result ((targets : ℕ) (first page : XorPage) (waiting : List Waiting) → state_of targets first page waiting self.new.disk self.new.log ≡ state_of targets first page waiting self.old.disk self.old.log) }
     {

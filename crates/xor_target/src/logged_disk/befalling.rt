@@ -5,6 +5,7 @@ ghost use Rattle.xor_mode_page.specs.declared.pages.XorPage.{XorPage};
 ghost use Rattle.xor_target.specs.Befalls.{IsShut, IsLost, IsReset, IsDropping};
 ghost use Rattle.xor_target.specs.Acts.{IsRenewedAs};
 ghost use Rattle.xor_target.specs.State.{state_of};
+ghost use Rattle.xor_target.specs.Waits.{without_gathering, without_gatherings};
 ghost use Rattle.xor_target.specs.declared.waiting.Waiting.{Waiting};
 
 use super::LoggedDisk;
@@ -18,7 +19,7 @@ use std::alloc::Global;
 impl<M: Medium + Drop> LoggedDisk<M> {
     /// An owner is shut, and what it holds is let go.
     pub fn shut(&mut self, owner: u32, opened: At, seen: u64) -> Result<ShutAnswer, Memory>
-        ensures shut { IfOk result (λ answer. (targets : ℕ) (first page : XorPage) (waiting : List Waiting) → IsShut (state_of targets first page waiting self.old.disk self.old.log) owner opened seen answer (state_of targets first page waiting self.new.disk self.new.log)) }
+        ensures shut { IfOk result (λ answer. (targets : ℕ) (first page : XorPage) (waiting : List Waiting) → IsShut (state_of targets first page waiting self.old.disk self.old.log) owner opened seen answer (state_of targets first page (without_gathering owner waiting) self.new.disk self.new.log)) }
         ensures memory { OnErr result ((targets : ℕ) (first page : XorPage) (waiting : List Waiting) → state_of targets first page waiting self.new.disk self.new.log ≡ state_of targets first page waiting self.old.disk self.old.log) }
     {
         let stamp = self.log.next_stamp(seen)?;
@@ -44,7 +45,7 @@ impl<M: Medium + Drop> LoggedDisk<M> {
 
     /// The disk is lost for a call, and what is held with it.
     pub fn lose(&mut self, alloc: Global, call: u32, seen: u64) -> Result<GoneAt, Memory>
-        ensures lost { IfOk result (λ answer. (targets : ℕ) (first page : XorPage) (waiting : List Waiting) → IsLost (state_of targets first page waiting self.old.disk self.old.log) call seen answer (state_of targets first page waiting self.new.disk self.new.log)) }
+        ensures lost { IfOk result (λ answer. (targets : ℕ) (first page : XorPage) (waiting : List Waiting) → IsLost (state_of targets first page waiting self.old.disk self.old.log) call seen answer (state_of targets first page (without_gatherings waiting) self.new.disk self.new.log)) }
         ensures memory { OnErr result ((targets : ℕ) (first page : XorPage) (waiting : List Waiting) → state_of targets first page waiting self.new.disk self.new.log ≡ state_of targets first page waiting self.old.disk self.old.log) }
     {
         let stamp = self.log.next_stamp(seen)?;

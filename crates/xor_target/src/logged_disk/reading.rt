@@ -1,6 +1,6 @@
 //! READ(10), and XDREAD (SBC): commands that write nothing, and answer rows of the medium or of the buffer.
 
-ghost use Rattle.std.specs.Prelude.{◌≡◌, ◌*◌, None, IfOk, IfErr};
+ghost use Rattle.std.specs.Prelude.{◌≡◌, ◌*◌, None, length, IfOk, IfErr};
 ghost use Rattle.xor_buffers.specs.Held.{holder_of};
 ghost use Rattle.xor_target.specs.Acts.{IsAct, IsStopped, HasEffect};
 ghost use Rattle.xor_target.specs.Effects.{read_effect, xdread_effect};
@@ -18,6 +18,7 @@ impl<M: Medium + Drop> LoggedDisk<M> {
     pub fn read(&mut self, alloc: Global, order: &Order, act: &BlockAct) -> Result<Bytes, ActStop>
         requires act { IsAct self.old.disk self.old.log order.now act.now }
         ensures done { IfOk result (λ bytes. HasEffect self.old.disk self.old.log act.now (λ old. read_effect order.now act.now.cdb self.old.disk.buffer.list old act.now.row) bytes self.new.disk self.new.log) }
+        ensures whole { IfOk result (λ bytes. length bytes ≡ act.now.count * self.old.disk.block) }
         ensures stopped { IfErr result (IsStopped M.NEVER_FAILS self.old.disk self.old.log self.new.disk self.new.log) }
     {
         let len = byte_count(act.count, self.disk.block());
@@ -44,6 +45,7 @@ impl<M: Medium + Drop> LoggedDisk<M> {
         requires act { IsAct self.old.disk self.old.log order.now act.now }
         requires held { holder_of self.old.disk.block act.now.row (act.now.count * self.old.disk.block) self.old.disk.buffer.list ≡ None → ⊥ }
         ensures done { IfOk result (λ bytes. HasEffect self.old.disk self.old.log act.now (λ _. xdread_effect self.old.disk.block order.now act.now.cdb self.old.disk.buffer.list act.now.row (act.now.count * self.old.disk.block)) bytes self.new.disk self.new.log) }
+        ensures whole { IfOk result (λ bytes. length bytes ≡ act.now.count * self.old.disk.block) }
         ensures stopped { IfErr result (IsStopped M.NEVER_FAILS self.old.disk self.old.log self.new.disk self.new.log) }
     {
         let len = byte_count(act.count, self.disk.block());

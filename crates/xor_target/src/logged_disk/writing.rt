@@ -1,6 +1,6 @@
 //! WRITE(10) and XPWRITE (SBC): commands that write, and hold nothing.
 
-ghost use Rattle.std.specs.Prelude.{◌≡◌, ◌*◌, length, IfOk, IfErr};
+ghost use Rattle.std.specs.Prelude.{◌≡◌, ◌*◌, length, [], IfOk, IfErr};
 ghost use Rattle.xor_target.specs.Acts.{IsAct, IsStopped, HasEffect};
 ghost use Rattle.xor_target.specs.Effects.{write_effect, xpwrite_effect};
 
@@ -18,6 +18,7 @@ impl<M: Medium + Drop> LoggedDisk<M> {
         requires act { IsAct self.old.disk self.old.log order.now act.now }
         requires due { length order.now.bytes ≡ act.now.count * self.old.disk.block }
         ensures done { IfOk result (λ bytes. HasEffect self.old.disk self.old.log act.now (λ _. write_effect order.now act.now.cdb self.old.disk.buffer.list act.now.row) bytes self.new.disk self.new.log) }
+        ensures none { IfOk result (λ bytes. bytes ≡ []) }
         ensures stopped { IfErr result (IsStopped M.NEVER_FAILS self.old.disk self.old.log self.new.disk self.new.log) }
     {
         let Workspace { names, kept, .. } = Workspace::of_data(alloc, order, 0)?;
@@ -44,6 +45,7 @@ impl<M: Medium + Drop> LoggedDisk<M> {
         requires act { IsAct self.old.disk self.old.log order.now act.now }
         requires due { length order.now.bytes ≡ act.now.count * self.old.disk.block }
         ensures done { IfOk result (λ bytes. HasEffect self.old.disk self.old.log act.now (λ old. xpwrite_effect order.now act.now.cdb self.old.disk.buffer.list old act.now.row) bytes self.new.disk self.new.log) }
+        ensures none { IfOk result (λ bytes. bytes ≡ []) }
         ensures stopped { IfErr result (IsStopped M.NEVER_FAILS self.old.disk self.old.log self.new.disk self.new.log) }
     {
         let Workspace {

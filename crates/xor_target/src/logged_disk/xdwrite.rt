@@ -1,6 +1,6 @@
 //! XDWRITE (SBC): writes the data sent, unless that is disabled, and holds the old data exclusive-or them.
 
-ghost use Rattle.std.specs.Prelude.{◌≡◌, ◌-◌, ◌*◌, nat_lt, false, length, None, IfOk, IfErr};
+ghost use Rattle.std.specs.Prelude.{◌≡◌, ◌+◌, ◌-◌, ◌*◌, nat_lt, false, length, None, [], IfOk, IfErr};
 ghost use Rattle.xor_buffers.specs.Held.{overlap_of, held_blocks};
 ghost use Rattle.xor_target.specs.Acts.{IsAct, IsStopped, HasEffect};
 ghost use Rattle.xor_target.specs.Effects.{xdwrite_effect, xdwrite_disabled_effect};
@@ -26,6 +26,8 @@ impl<M: Medium + Drop> LoggedDisk<M> {
         requires free { overlap_of self.old.disk.block act.now.row act.now.count self.old.disk.buffer.list ≡ None }
         requires room { nat_lt (self.old.disk.buffer.capacity - held_blocks self.old.disk.block self.old.disk.buffer.list) act.now.count ≡ false }
         ensures done { IfOk result (λ bytes. HasEffect self.old.disk self.old.log act.now (λ old. xdwrite_effect order.now act.now.cdb self.old.disk.buffer.list old act.now.row) bytes self.new.disk self.new.log) }
+        ensures none { IfOk result (λ bytes. bytes ≡ []) }
+        ensures fills { IfOk result (λ _. held_blocks self.old.disk.block self.new.disk.buffer.list ≡ held_blocks self.old.disk.block self.old.disk.buffer.list + act.now.count) }
         ensures stopped { IfErr result (IsStopped M.NEVER_FAILS self.old.disk self.old.log self.new.disk self.new.log) }
     {
         let Workspace { kept, mut rows, .. } = Workspace::of_data(alloc, order, order.bytes.len())?;
@@ -51,6 +53,8 @@ impl<M: Medium + Drop> LoggedDisk<M> {
         requires free { overlap_of self.old.disk.block act.now.row act.now.count self.old.disk.buffer.list ≡ None }
         requires room { nat_lt (self.old.disk.buffer.capacity - held_blocks self.old.disk.block self.old.disk.buffer.list) act.now.count ≡ false }
         ensures done { IfOk result (λ bytes. HasEffect self.old.disk self.old.log act.now (λ old. xdwrite_disabled_effect order.now act.now.cdb self.old.disk.buffer.list old act.now.row) bytes self.new.disk self.new.log) }
+        ensures none { IfOk result (λ bytes. bytes ≡ []) }
+        ensures fills { IfOk result (λ _. held_blocks self.old.disk.block self.new.disk.buffer.list ≡ held_blocks self.old.disk.block self.old.disk.buffer.list + act.now.count) }
         ensures stopped { IfErr result (IsStopped M.NEVER_FAILS self.old.disk self.old.log self.new.disk self.new.log) }
     {
         let Workspace {

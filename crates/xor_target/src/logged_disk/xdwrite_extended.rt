@@ -25,6 +25,7 @@ impl<M: Medium + Drop> LoggedDisk<M> {
         requires act { IsAct self.old.disk self.old.log order.now act.now }
         requires due { length order.now.bytes ≡ act.now.count * self.old.disk.block }
         ensures done { IfOk result (λ bytes. HasEffect self.old.disk self.old.log act.now (λ old. xdwrite_extended_effect order.now act.now.cdb self.old.disk.buffer.list old (drops_next self.old.log.number self.old.log.past) act.now.row) bytes self.new.disk self.new.log) }
+        ensures whole { IfOk result (λ bytes. length bytes ≡ act.now.count * self.old.disk.block) }
         ensures stopped { IfErr result (IsStopped M.NEVER_FAILS self.old.disk self.old.log self.new.disk self.new.log) }
     {
         let Workspace { kept, mut rows, .. } = Workspace::of_data(alloc, order, order.bytes.len())?;
@@ -47,6 +48,7 @@ impl<M: Medium + Drop> LoggedDisk<M> {
         requires act { IsAct self.old.disk self.old.log order.now act.now }
         requires due { length order.now.bytes ≡ act.now.count * self.old.disk.block }
         ensures done { IfOk result (λ bytes. HasEffect self.old.disk self.old.log act.now (λ old. xdwrite_extended_disabled_effect order.now act.now.cdb self.old.disk.buffer.list old act.now.row) bytes self.new.disk self.new.log) }
+        ensures whole { IfOk result (λ bytes. length bytes ≡ act.now.count * self.old.disk.block) }
         ensures stopped { IfErr result (IsStopped M.NEVER_FAILS self.old.disk self.old.log self.new.disk self.new.log) }
     {
         let Workspace {

@@ -24,6 +24,7 @@ impl<M: Medium + Drop> LoggedDisk<M> {
         requires act { IsAct self.old.disk self.old.log order.now act.now }
         requires due { length order.now.bytes ≡ act.now.count * self.old.disk.block }
         ensures done { IfOk result (λ bytes. HasEffect self.old.disk self.old.log act.now (λ old. xdwriteread_effect order.now act.now.cdb self.old.disk.buffer.list old act.now.row) bytes self.new.disk self.new.log) }
+        ensures whole { IfOk result (λ bytes. length bytes ≡ act.now.count * self.old.disk.block) }
         ensures stopped { IfErr result (IsStopped M.NEVER_FAILS self.old.disk self.old.log self.new.disk self.new.log) }
     {
         let Workspace { kept, mut rows, .. } = Workspace::of_data(alloc, order, order.bytes.len())?;
@@ -45,6 +46,7 @@ impl<M: Medium + Drop> LoggedDisk<M> {
         requires act { IsAct self.old.disk self.old.log order.now act.now }
         requires due { length order.now.bytes ≡ act.now.count * self.old.disk.block }
         ensures done { IfOk result (λ bytes. HasEffect self.old.disk self.old.log act.now (λ old. xdwriteread_disabled_effect order.now act.now.cdb self.old.disk.buffer.list old act.now.row) bytes self.new.disk self.new.log) }
+        ensures whole { IfOk result (λ bytes. length bytes ≡ act.now.count * self.old.disk.block) }
         ensures stopped { IfErr result (IsStopped M.NEVER_FAILS self.old.disk self.old.log self.new.disk self.new.log) }
     {
         let Workspace {

@@ -5,6 +5,7 @@ ghost use Rattle.sbc_cdbs.specs.Cdbs.{cdb_bytes};
 ghost use Rattle.xor_mode_page.specs.declared.pages.XorPage.{XorPage};
 ghost use Rattle.xor_target.specs.Acts.{IsPossible, IsFewWhereGone};
 ghost use Rattle.xor_target.specs.Answers.{IsSent, next_stamp, fold_order, fold_request};
+ghost use Rattle.xor_target.specs.declared.answer.Answer.TheVariants as answers;
 ghost use Rattle.xor_target.specs.Sending.{sent_answer, waiting_sent};
 ghost use Rattle.xor_target.specs.State.{state_of};
 
@@ -45,10 +46,7 @@ impl<M: Medium + Drop> LoggedDisk<M> {
         ensures kept { IfOk result (λ s. s.kept ≡ s.name ∷ []) }
         ensures request { IfOk result (λ s. s.request ≡ fold_request self.now.log.number s.name order.now secondary.row secondary.count secondary.target []) }
     {
-        let name = At {
-            stamp: self.log.next_stamp(order.stamp)?,
-            lock: self.log.number() + 1,
-        };
+        let name = self.next_name(order.stamp)?;
         Ok(Sending {
             name,
             kept: one_name(alloc, name)?,
@@ -113,16 +111,39 @@ impl<M: Medium + Drop> LogicalUnit<M> {
     }
 
     /// The answer to an XDWRITE EXTENDED that was done, or failed with this answer; it waits where it sends its
-    /// delta.
+    /// delta. A loss of the disk ends all gatherings.
     fn sent(&mut self, owner: u32, answer: Answer, sending: Sending, dropped: bool) -> Answer
         requires { 1 ≤ self.old.waiting.room }
         ensures says { result ≡ sent_answer sending dropped answer }
         ensures waits { self.new.waiting.list ≡ waiting_sent self.old.waiting.list owner sending dropped answer }
         ensures same { self.new.logged ≡ self.old.logged }
     {
-        let Answer::Good { bytes, made } = answer else {
-            return answer;
-        };
+        match answer {
+            Answer::Good { bytes, made } => {
+                self.made_delta(owner, bytes, made, sending, dropped)
+            }
+            Answer::Gone { at, life, loss } => {
+                self.waiting.discard_gatherings();
+                Answer::Gone { at, life, loss }
+            }
+            answer => answer,
+        }
+    }
+
+    /// A delta that was made is sent, unless that request is dropped.
+    fn made_delta(
+        &mut self,
+        owner: u32,
+        bytes: Bytes,
+        made: Names,
+        sending: Sending,
+        dropped: bool,
+    ) -> Answer
+        requires { 1 ≤ self.old.waiting.room }
+        ensures says { result ≡ sent_answer sending dropped (answers.Good bytes made) }
+        ensures waits { self.new.waiting.list ≡ waiting_sent self.old.waiting.list owner sending dropped (answers.Good bytes made) }
+        ensures same { self.new.logged ≡ self.old.logged }
+    {
         if dropped {
             return Answer::Check {
                 sense: communication_failure(),
@@ -135,7 +156,11 @@ impl<M: Medium + Drop> LogicalUnit<M> {
             mut request,
             ..
         } = sending;
-        self.waiting.begin(Waiting { owner, made: kept });
+        self.waiting.begin(Waiting {
+            owner,
+            made: kept,
+            gathering: None,
+        });
         request.order.bytes = bytes;
         Answer::Peer { request, made }
     }

@@ -19,7 +19,7 @@ impl<M: Medium + Drop> Target<M> {
         ensures shut { IfOk result (λ answer. IsShut self.old owner opened stamp answer self.new) }
         ensures memory { OnErr result (self.new ≡ self.old) }
     {
-        self.unit.logged.shut(owner, opened, stamp)
+        self.unit.shut(owner, opened, stamp)
     }
 
     /// The disk is lost, for a call, with all that is held; also where it is lost already.
@@ -28,7 +28,7 @@ impl<M: Medium + Drop> Target<M> {
         ensures lost { IfOk result (λ answer. IsLost self.old call stamp answer self.new) }
         ensures memory { OnErr result (self.new ≡ self.old) }
     {
-        self.unit.logged.lose(alloc, call, stamp)
+        self.unit.lose(alloc, call, stamp)
     }
 
     /// The buffer is reset: all that is held is let go, and nothing else is changed.

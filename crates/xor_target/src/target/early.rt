@@ -102,23 +102,26 @@ impl<M: Medium + Drop> Target<M> {
         }
     }
 
-    /// Rows to hold of which one is held.
+    /// Rows to hold of which one is held or set aside.
     fn overlap_row(&self, alloc: Global, order: &Order, command: &Command) -> Option<Answer>
         ensures { result ≡ overlap_row self.now order.now command.now }
     {
         let row = command.first_block().unwrap_or(0);
         let count = command.block_count().unwrap_or(0);
-        if command.is_kept() && self.unit.logged.disk.overlap(row, count).is_some() {
+        let taken = self.unit.logged.disk.overlap(row, count).is_some()
+            || self.unit.waiting.overlaps(row, count);
+        if command.is_kept() && taken {
             return Some(self.check(alloc, order, Sense::illegal(SEQUENCE, 0, None)));
         }
         None
     }
 
-    /// More blocks to hold than there is room for.
+    /// More blocks to hold than there is room for that isn't set aside.
     fn room_row(&self, alloc: Global, order: &Order, command: &Command) -> Option<Answer>
         ensures { result ≡ room_row self.now order.now command.now }
     {
-        if command.is_kept() && self.unit.logged.disk.room() < command.block_count().unwrap_or(0) {
+        let room = self.unit.waiting.room_left(self.unit.logged.disk.room());
+        if command.is_kept() && room < command.block_count().unwrap_or(0) {
             return Some(self.check(alloc, order, Sense::illegal(BUFFER_FULL, 1, None)));
         }
         None

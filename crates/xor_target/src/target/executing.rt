@@ -1,8 +1,9 @@
 //! Orders.
 
 ghost use Rattle.std.specs.Prelude.{◌≡◌, false, IfOk, OnErr};
-ghost use Rattle.xor_target.specs.Acts.{IsAdmitted, MovesBlocks};
-ghost use Rattle.xor_target.specs.Answers.{IsAnswered, IsActed, IsExecuted, IsSent};
+ghost use Rattle.xor_target.specs.Acts.{IsAdmitted, BringsBlocks};
+ghost use Rattle.xor_target.specs.Answers.{IsAnswered, IsActed, IsExecuted, IsSent, IsGathered};
+ghost use Rattle.xor_target.specs.Gathers.{IsGatherer};
 ghost use Rattle.xor_target.specs.State.{is_waiting};
 
 use super::Target;
@@ -54,6 +55,9 @@ impl<M: Medium + Drop> Target<M> {
                 };
                 self.send(alloc, order, admitted, secondary)
             }
+            Command::Rebuild { .. } | Command::Regenerate { .. } => {
+                self.gather(alloc, order, admitted)
+            }
             _ => self.act(alloc, order, admitted),
         }
     }
@@ -61,11 +65,11 @@ impl<M: Medium + Drop> Target<M> {
     /// Does what a command of blocks says.
     fn act(&mut self, alloc: Global, order: &Order, admitted: &Admitted) -> Result<Answer, Memory>
         requires admitted { IsAdmitted self.old order.now admitted.now }
-        requires blocks { MovesBlocks admitted.now.command }
+        requires blocks { BringsBlocks admitted.now.command }
         ensures done { IfOk result (λ answer. IsActed M.NEVER_FAILS self.old order.now admitted.now.command answer self.new) }
         ensures memory { OnErr result (self.new ≡ self.old) }
     {
-        self.unit.logged.act(alloc, order, admitted)
+        self.unit.act(alloc, order, admitted)
     }
 
     /// Does an XDWRITE EXTENDED, and asks that its delta be folded.
@@ -77,10 +81,25 @@ impl<M: Medium + Drop> Target<M> {
         secondary: Secondary,
     ) -> Result<Answer, Memory>
         requires admitted { IsAdmitted self.old order.now admitted.now }
-        requires blocks { MovesBlocks admitted.now.command }
+        requires blocks { BringsBlocks admitted.now.command }
         ensures sent { IfOk result (λ answer. IsSent M.NEVER_FAILS self.old order.now admitted.now.command secondary.row secondary.count secondary.target answer self.new) }
         ensures memory { OnErr result (self.new ≡ self.old) }
     {
         self.unit.send(alloc, order, admitted, secondary)
+    }
+
+    /// Does a REBUILD or REGENERATE, or begins to gather what it takes.
+    fn gather(
+        &mut self,
+        alloc: Global,
+        order: &Order,
+        admitted: &Admitted,
+    ) -> Result<Answer, Memory>
+        requires admitted { IsAdmitted self.old order.now admitted.now }
+        requires gathers { IsGatherer admitted.now.command }
+        ensures gathered { IfOk result (λ answer. IsGathered M.NEVER_FAILS self.old order.now admitted.now.command answer self.new) }
+        ensures memory { OnErr result (self.new ≡ self.old) }
+    {
+        self.unit.gather(alloc, order, admitted)
     }
 }

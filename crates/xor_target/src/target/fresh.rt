@@ -14,7 +14,7 @@ impl<M: Medium + Drop> Target<M> {
     pub fn fresh(&mut self, alloc: Global, call: u32, swap: At, stamp: u64) -> Answer
         ensures { IsRenewed M.NEVER_FAILS self.old call swap stamp result self.new }
     {
-        match self.unit.logged.renew(alloc, call, swap, stamp) {
+        match self.unit.renew(alloc, call, swap, stamp) {
             Ok(Ok(made)) => {
                 self.page = self.first;
                 Answer::Good {

@@ -9,6 +9,7 @@ use Rattle.xor_target.specs.declared.answer.Answer.TheVariants.{Good, Gone}
 use Rattle.xor_target.specs.declared.answer.GoneAt.{GoneAt}
 use Rattle.xor_target.specs.Admission.{row_of, count_of}
 use Rattle.xor_target.specs.Logs.{Logged}
+use Rattle.xor_target.specs.Waits.{without_gatherings}
 use Rattle.xor_target.specs.State.{TargetState, state_of}
 use Rattle.xor_target.specs.Answers.{IsDone, IsStruck, Does, Fails, next_name}
 use Rattle.xor_target.specs.Acts.{IsStopped}
@@ -28,7 +29,7 @@ returns-in-Ok-clause-acted g c targets first page waiting =
     let row : act.row ≡ row_of command = search rules in
     let count : act.count ≡ count_of command = search rules in
     let done = performed-done targets first page waiting mid.disk after.disk mid.log after.log order command act c.in-Ok.bytes
-    (record { row = row; count = count }) c.requires.sent prepared.ready.stamp c.in-Ok.ensures.done in
+    (record { row = row; count = count }) c.requires.sent prepared.ready.stamp c.in-Ok.ensures.done c.in-Ok.ensures.whole c.in-Ok.ensures.fills in
     Does c.in-Ok.bytes (subst (λ (t : TargetState). IsDone t order command c.in-Ok.bytes (state_of targets first page waiting after.disk after.log)) same done)
     (ap (λ names. Good c.in-Ok.bytes names)
     (prepared.ready.made ∙ ap (λ s. record { stamp = s; lock = mid.log.number + 1 } ∷ []) prepared.ready.stamp
@@ -53,7 +54,7 @@ returns-in-Err-Failed-clause-acted g c targets first page waiting =
     ∙ ap (λ (l : Logged). record { stamp = ready.stamp; lock = l.number + 1; event = events.Gone (life_of l.number l.past) 0 ready.owners } ∷ l.past) stop.2)
     number prepared.ready.stamp prepared.ready.owners in
     let loss = discarded_at after.log.number order.owner after.log.past in
-    Fails (subst (λ (t : TargetState). IsStruck never t order.stamp (state_of targets first page waiting after.disk after.log)) same struck)
+    Fails (subst (λ (t : TargetState). IsStruck never t order.stamp (state_of targets first page (without_gatherings waiting) after.disk after.log)) same struck)
     (ap (λ (l : Option At). Gone c.fail-lost.result.at c.fail-lost.result.life l) c.discarded_at.ensures
     ∙ ap (λ (x : GoneAt). Gone x.at x.life loss) c.fail-lost.ensures.says ∙ ap (λ (l : Logged). Gone (record { stamp = ready.stamp; lock = l.number + 1 }) (life_of l.number l.past) loss) stop.2
     ∙ ap (λ s. Gone (record { stamp = s; lock = mid.log.number + 1 }) (life_of mid.log.number mid.log.past) loss) prepared.ready.stamp

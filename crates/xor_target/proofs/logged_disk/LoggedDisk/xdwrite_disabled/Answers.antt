@@ -4,7 +4,7 @@ use Rattle.xor_buffers.specs.declared.held.HeldBlocks.{HeldBlocks}
 use Rattle.xor_target.specs.Disks.{DiskState}
 use Rattle.std.proofs.lemmas.Grind.{common_steps}
 use Rattle.xor_target.proofs.StoodRows.{stood-as}
-use Rattle.xor_target.proofs.DiskSteps.{held-last}
+use Rattle.xor_target.proofs.DiskSteps.{held-last, filled-last}
 use Rattle.xor_target.proofs.logged_disk.LoggedDisk.xdwrite_disabled.Goals as goal
 
 pub returns-clause-done : goal.returns-clause-done
@@ -27,7 +27,12 @@ returns-clause-done g c =
       counted = search rules;
       kept =
           held-last disk c.reserve.new.self c.read_delta.new.self c.read_delta.new.self c.hold.new.self (holds c.deref-2.result.now)
-          (holds (xor gives.old order.bytes)) reserved c.in_ok-read_delta.ensures.same.same refl c.hold.ensures (ap holds delta);
+          (holds (xor gives.old order.bytes)) reserved c.in_ok-read_delta.ensures.same.same refl c.hold.ensures.held (ap holds delta);
       logged = search rules;
       number = search rules;
     }
+
+pub returns-clause-fills : goal.returns-clause-fills
+returns-clause-fills g c =
+    filled-last c.args.self.now.disk c.reserve.new.self c.read_delta.new.self c.read_delta.new.self c.hold.new.self.buffer.list c.args.act.now.count
+    c.in_ok-reserve.ensures.same c.in_ok-read_delta.ensures.same.same refl c.hold.ensures.fills

@@ -5,10 +5,10 @@ use Rattle.xor_target.proofs.target.Target.resume.Goals as goal
 
 pub returns-in-Good : goal.returns-in-Good
 returns-in-Good g c =
-    subst (λ (b : PeerBack). IsResumed g.M.Medium.NEVER_FAILS c.args.self.now c.args.owner b c.args._stamp c.folded.result c.folded.new.self) (sym c.in-Good.is)
-    (c.folded.ensures c.in-Good.bytes c.args._stamp)
+    subst (λ (b : PeerBack). IsResumed g.M.Medium.NEVER_FAILS c.args.self.now c.args.owner b c.args.stamp c.answered.result c.answered.new.self) (sym c.in-Good.is)
+    c.answered.ensures
 
 pub returns-in-Failed : goal.returns-in-Failed
 returns-in-Failed g c =
-    subst (λ (b : PeerBack). IsResumed g.M.Medium.NEVER_FAILS c.args.self.now c.args.owner b c.args._stamp c.refused.result c.refused.new.self) (sym c.in-Failed.is)
-    (c.refused.ensures c.args._stamp)
+    subst (λ (b : PeerBack). IsResumed g.M.Medium.NEVER_FAILS c.args.self.now c.args.owner b c.args.stamp c.refused.result c.refused.new.self) (sym c.in-Failed.is)
+    (c.refused.ensures c.args.stamp)

@@ -1,10 +1,10 @@
-use Rattle.std.proofs.Common.{◌≡◌, subst, sym, IfOk, OnErr}
+use Rattle.std.proofs.Common.{◌≡◌, ◌∙◌, subst, sym, IfOk, OnErr}
 use Rattle.xor_target.specs.State.{TargetState, state_of}
 use Rattle.xor_target.specs.Answers.{IsSent}
 use Rattle.xor_target.specs.Acts.{IsAdmitted, IsFewWhereGone}
 use Rattle.xor_target.proofs.Handing.{unit-ok, ok-both, unit-err, kept-target}
 use Rattle.xor_target.proofs.KeptStates.{sent-target}
-use Rattle.xor_target.proofs.Possible.{admitted-possible, admitted-sound, admitted-held}
+use Rattle.xor_target.proofs.Possible.{admitted-possible, admitted-finds, admitted-sound, admitted-held, due-of}
 use Rattle.xor_target.proofs.target.Target.send.Goals as goal
 
 pub send-requires-clause-possible : goal.send-requires-clause-possible
@@ -27,6 +27,7 @@ invariant_of-self g c =
     let before = state_of inside.targets inside.first inside.page waiting unit.disk unit.log in
     let after = state_of inside.targets inside.first inside.page new.waiting.list new.logged.disk new.logged.log in
     let admitted = subst (λ (t : TargetState). IsAdmitted t order c.args.admitted.now) (sym c.self.view_is) c.requires.admitted in
+    let possible = admitted-possible inside.targets inside.first inside.page waiting unit.disk unit.log order c.args.admitted.now admitted c.requires.blocks in
     let sent = unit-ok c.send.result
     (λ a n f p. IsSent never (state_of n f p waiting unit.disk unit.log) order command to.row to.count to.target a (state_of n f p new.waiting.list new.logged.disk new.logged.log))
     inside.targets inside.first inside.page c.send.ensures.sent in
@@ -34,8 +35,9 @@ invariant_of-self g c =
     (ok-both c.send.result (λ a. IsSent never before order command to.row to.count to.target a after) (IsFewWhereGone new.logged.log.past) sent c.send.ensures.few)
     (unit-err c.send.result (λ n f p. state_of n f p new.waiting.list new.logged.disk new.logged.log ≡ state_of n f p waiting unit.disk unit.log)
     inside.targets inside.first inside.page c.send.ensures.memory)
-    (λ a s. sent-target never before order command to.row to.count to.target a after c.self.invariant (admitted-sound before order admitted.early) admitted.due
-    (admitted-held before order command admitted.early admitted.command) s.1 s.0)
+    (λ a s. sent-target never before order command to.row to.count to.target a after c.self.invariant (admitted-sound before order admitted.early) (admitted.due ∙ due-of before.block command c.requires.blocks)
+    (admitted-held before order command admitted.early admitted.command)
+    (admitted-finds before order command c.self.invariant admitted.early admitted.command possible.some) s.1 s.0)
     c.self.invariant
 
 pub returns-clause-sent : goal.returns-clause-sent
