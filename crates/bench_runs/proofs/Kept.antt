@@ -66,7 +66,7 @@ newest-there (x ∷ ts) zero t there =
     subst (λ (s : TargetState). last_stamp s.past ≤ max (last_stamp x.past) (newest_stamp ts)) (same_Some x t there) (first-below (last_stamp x.past) (newest_stamp ts) (max (last_stamp x.past) (newest_stamp ts)) (omega arith))
 newest-there (x ∷ ts) (suc i) t there = max-above (last_stamp x.past) (newest_stamp ts) (last_stamp t.past) (newest-there ts i t there)
 
-newest-still : (ts : List TargetState) (i : ℕ) (t next : TargetState) → slice_get ts i ≡ Some t → next.past ≡ t.past → newest_stamp (slice_set ts i next) ≡ newest_stamp ts
+pub newest-still : (ts : List TargetState) (i : ℕ) (t next : TargetState) → slice_get ts i ≡ Some t → next.past ≡ t.past → newest_stamp (slice_set ts i next) ≡ newest_stamp ts
 newest-still [] i t next there same = refl
 newest-still (x ∷ ts) zero t next there same =
     let is : x ≡ t = same_Some x t there in
