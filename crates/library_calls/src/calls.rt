@@ -4,7 +4,6 @@ ghost use Rattle.std.specs.Prelude.{◌≡◌, ◌<◌, ◌≤◌, ◌^◌, leng
 ghost use Rattle.host_scripts.specs.Scripts.{IsScript};
 
 use crate::blocks::push_blocks_core;
-use crate::book::push_book;
 use crate::buffers::push_buffers;
 use crate::journals::push_journal;
 use crate::outside::push_outer_io;
@@ -61,15 +60,24 @@ fn called(alloc: Global, script: &Script, journal: &Journal) -> Result<Answer, M
     let mut text = Bytes::new(alloc);
     push_journal(alloc, &mut text, script, journal)?;
     text.push_slice(b"libraries\n")?;
-    push_blocks_core(alloc, &mut text)?;
-    push_outer_io(alloc, &mut text)?;
-    push_state(alloc, &mut text)?;
-    push_buffers(alloc, &mut text)?;
-    push_requests(alloc, &mut text)?;
-    push_scripts(alloc, &mut text)?;
-    push_tables(alloc, &mut text)?;
-    push_pages(&mut text)?;
-    push_streams(alloc, &mut text)?;
-    push_book(alloc, &mut text)?;
+    push_lists(alloc, &mut text)?;
+    push_encoded(alloc, &mut text)?;
     Ok(Answer::Text(text))
+}
+
+/// What is kept, handed over and asked.
+fn push_lists(alloc: Global, text: &mut Bytes) -> Result<(), Memory> {
+    push_blocks_core(alloc, text)?;
+    push_outer_io(alloc, text)?;
+    push_state(alloc, text)?;
+    push_buffers(alloc, text)?;
+    push_requests(alloc, text)?;
+    push_scripts(alloc, text)
+}
+
+/// What the standards encode, and frames.
+fn push_encoded(alloc: Global, text: &mut Bytes) -> Result<(), Memory> {
+    push_tables(alloc, text)?;
+    push_pages(text)?;
+    push_streams(alloc, text)
 }

@@ -5,8 +5,6 @@
 #![tactic(auto)]
 
 mod blocks;
-mod book;
-mod book_calls;
 mod buffers;
 mod calls;
 mod journals;

@@ -2,7 +2,7 @@
 
 ghost use Rattle.std.specs.Prelude.{◌≡◌, ◌<◌, length, IfOk};
 ghost use Rattle.array_book.specs.Asks.{IsPiece, IsWant};
-ghost use Rattle.library_calls.specs.Shapes.{IsSmall};
+ghost use Rattle.machine_calls.specs.Shapes.{IsSmall};
 
 use array_book::{Ask, Begun, Book, End, Noted, Swapped, Want};
 use array_journal::{At, Kind, Names, Setting, Why};

@@ -2,7 +2,7 @@
 
 ghost use Rattle.std.specs.Prelude.{◌≡◌, ◌<◌, IfOk};
 ghost use Rattle.array_book.specs.Asks.{IsWant};
-ghost use Rattle.library_calls.specs.Shapes.{IsSmall};
+ghost use Rattle.machine_calls.specs.Shapes.{IsSmall};
 
 use crate::book_calls::{
     push_begin, push_end, push_look, push_look_swap, push_note, push_spoil, push_swap, read_at,
