@@ -5,3 +5,4 @@ pub mod Fronts
 pub mod Streams
 pub mod Feeds
 pub mod Cuts
+pub mod Beginnings

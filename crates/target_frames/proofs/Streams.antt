@@ -25,7 +25,7 @@ ends_one known at more (Refused b) (Refused c) p q =
     ap Refused (p.2 ∙ ap (λ n. at + n) same ∙ sym q.2)
 
 -- where an item is whole, nothing ends
-not_whole : (known : Option ℕ) (at : ℕ) (bytes : List ℕ) (e : End) (item : Item) (x : List ℕ) → Ends known at bytes e → IsSound known item → bytes ≡ spelling item ++ x → ⊥
+pub not_whole : (known : Option ℕ) (at : ℕ) (bytes : List ℕ) (e : End) (item : Item) (x : List ℕ) → Ends known at bytes e → IsSound known item → bytes ≡ spelling item ++ x → ⊥
 not_whole known at bytes (Unfinished r) item x ends sound is =
     let again = front_again known item x sound in
     let short : length (spelling item ++ x) < due known (spelling item ++ x) = subst (λ (b : List ℕ). length b < due known b) is ends.2 in
@@ -36,13 +36,13 @@ not_whole known at bytes (Refused b) item x ends sound is =
 -- ---- one reading
 
 -- what is read behind the first item
-record IsBehind (known : Option ℕ) (at : ℕ) (bytes : List ℕ) (item : Item) (items : List Item) (end : End) : Type 0 where
+pub record IsBehind (known : Option ℕ) (at : ℕ) (bytes : List ℕ) (item : Item) (items : List Item) (end : End) : Type 0 where
   pub rest : List ℕ
   pub first : bytes ≡ spelling item ++ rest
   pub sound : IsSound known item
   pub reads : ReadsFrom (told known item) (at + length (spelling item)) rest items end
 
-behind : (known : Option ℕ) (at : ℕ) (bytes : List ℕ) (item : Item) (items : List Item) (end : End) → ReadsFrom known at bytes (item ∷ items) end → IsBehind known at bytes item items end
+pub behind : (known : Option ℕ) (at : ℕ) (bytes : List ℕ) (item : Item) (items : List Item) (end : End) → ReadsFrom known at bytes (item ∷ items) end → IsBehind known at bytes item items end
 behind known at bytes item items end r =
     let cut : spellings (item ∷ items) ≡ spelling item ++ spellings items = flat_map-cons spelling item items in
     let place : at + length (spellings (item ∷ items)) ≡ at + length (spelling item) + length (spellings items) =

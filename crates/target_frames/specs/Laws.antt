@@ -20,5 +20,10 @@ PiecesJoin =
     (first second rest : List ℕ) (a b : List Item) (end : End) → Reads first a (Unfinished rest)
     → ReadsFrom (all_told None a) (length (spellings a)) (rest ++ second) b end → Reads (first ++ second) (a ++ b) end
 
+abbrev pub WholeItemsAreRead : Type 0
+WholeItemsAreRead =
+    (items all : List Item) (more : List ℕ) (end : End) → AreSound None items → Reads (spellings items ++ more) all end
+    → (rest : List Item) × (all ≡ items ++ rest)
+
 abbrev pub RefusalsStay : Type 0
 RefusalsStay = (first second : List ℕ) (items : List Item) (byte : ℕ) → Reads first items (Refused byte) → Reads (first ++ second) items (Refused byte)

@@ -76,4 +76,11 @@ impl Items {
     {
         self.kept.as_slice()
     }
+
+    /// The items themselves. No memory is taken.
+    pub fn into_vec(self) -> Vec<Item>
+        ensures { result.items ≡ self }
+    {
+        self.kept
+    }
 }

@@ -1,6 +1,6 @@
 //! Laws of the stream alone, each the contract of a function with an empty body.
 
-ghost use Rattle.target_frames.specs.Laws.{NoItemBeginsAnother, StreamsHaveOneReading, SoundItemsAreRead, PiecesJoin, RefusalsStay};
+ghost use Rattle.target_frames.specs.Laws.{NoItemBeginsAnother, StreamsHaveOneReading, SoundItemsAreRead, WholeItemsAreRead, PiecesJoin, RefusalsStay};
 
 /// An item has one spelling, and none is the beginning of another's.
 pub fn no_item_begins_another()
@@ -15,6 +15,12 @@ pub fn streams_have_one_reading()
 /// The spellings of items that may stand behind one another are read as these.
 pub fn sound_items_are_read()
     ensures { SoundItemsAreRead }
+{}
+
+/// Items that may stand behind one another, at the front of a stream, are the first that are read of it, whatever
+/// stands behind them.
+pub fn whole_items_are_read()
+    ensures { WholeItemsAreRead }
 {}
 
 /// What is read of two pieces, the second behind what the first left unfinished, is what is read of both.

@@ -14,5 +14,5 @@ pub use frames::Frames;
 pub use items::{Item, Items};
 pub use laws::{
     no_item_begins_another, pieces_join, refusals_stay, sound_items_are_read,
-    streams_have_one_reading,
+    streams_have_one_reading, whole_items_are_read,
 };
