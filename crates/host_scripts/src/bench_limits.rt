@@ -67,8 +67,8 @@ fn cdb_blocks(rows: u32, cdb: &[u8], bytes: &[u8]) -> u64
     }
 }
 
-/// The blocks that a line moves.
-fn action_blocks(rows: u32, action: &BenchAction) -> u64
+/// The blocks that a line moves over media of so many rows, by its CDB alone: `over_bench` has the rule.
+pub fn moved_blocks(rows: u32, action: &BenchAction) -> u64
     ensures value { result ≡ moved_by_action rows action.now }
     ensures few { result ≤ 256 * rows }
 {
@@ -87,7 +87,7 @@ fn all_blocks(rows: u32, lines: &[BenchLine]) -> u64
 {
     let mut sum = 0;
     for line in lines {
-        sum += action_blocks(rows, &line.action);
+        sum += moved_blocks(rows, &line.action);
     }
     sum
 }

@@ -23,7 +23,7 @@ mod script;
 mod shape;
 
 pub use bench::{Bench, BenchAction, BenchLine};
-pub use bench_limits::over_bench;
+pub use bench_limits::{moved_blocks, over_bench};
 pub use bench_lines::BenchLines;
 pub use bench_parsing::{one_bench_refusal, one_bench_spelling, parse_bench};
 pub use calls::Calls;
