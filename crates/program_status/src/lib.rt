@@ -12,4 +12,4 @@ pub use handing::{hand, hand_note, hand_out};
 pub use notes::{Excess, cause_word, excess_line, numbered_line, refused_line};
 pub use status::{Status, Verdict};
 pub use stops::{Finding, ProgramStop, found};
-pub use words::{single_word, words_after_name};
+pub use words::{is_single_word, single_word, words_after_name};

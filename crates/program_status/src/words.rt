@@ -1,5 +1,6 @@
 //! The words that a program is started with.
 
+ghost use Rattle.std.specs.Prelude.{◌≡◌, [], ◌∷◌, IsTrue, IsFalse};
 ghost use Rattle.program_status.specs.Words.{texts, single_of};
 ghost use Rattle.text_fields.specs.Reading.{Reads};
 
@@ -26,5 +27,17 @@ pub fn single_word(words: &[String]) -> Option<&str>
     match words {
         [word] => Some(word.as_str()),
         _ => None,
+    }
+}
+
+/// Whether the words are this one alone.
+#[tactic(auto, using(crate::proofs::OneWord::one_yes, crate::proofs::OneWord::one_no, crate::proofs::OneWord::one_none))]
+pub fn is_single_word(words: &[String], word: &str) -> bool
+    ensures yes { IsTrue result → texts words.now ≡ word.now ∷ [] }
+    ensures no { IsFalse result → texts words.now ≡ word.now ∷ [] → ⊥ }
+{
+    match single_word(words) {
+        Some(only) => only == word,
+        None => false,
     }
 }
