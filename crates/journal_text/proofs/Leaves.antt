@@ -7,12 +7,13 @@ use Rattle.std.proofs.lemmas.Bool.{ltb-true, ltb-false, leb-true, leb-false, eqb
 use Rattle.blocks_core.specs.Xor.{zeros}
 use Rattle.sbc_cdbs.specs.declared.descriptor.Cdb.{Cdb}
 use Rattle.sense_data.specs.declared.senses.Sense.{Sense}
+use Rattle.sense_data.specs.Illegal.{in_cdb, illegal}
 use Rattle.sense_data.specs.Reading.{values}
 use Rattle.sense_data.proofs.Values.{same_sense}
 use Rattle.text_fields.specs.Reading.{◌>>=◌, number_of}
 use Rattle.journal_text.specs.Steps.{checked_below, checked_most, checked_same, below, same}
 use Rattle.journal_text.specs.Cdbs.{zeros-behind, cdb_of}
-use Rattle.journal_text.specs.Senses.{plain_sense, pointed_sense, pointed_of, sense_with}
+use Rattle.journal_text.specs.Senses.{plain_sense, pointed_of, sense_with}
 
 -- ---- facts that are tested
 
@@ -82,30 +83,27 @@ zeros-there bytes all n k e f le = ap (λ (xs : List ℕ). get_or xs k 0) e ∙ 
 
 pub other-key : (key asc ascq : ℕ) (text : List ℕ) → (key ≡ 5 → ⊥) → pointed_of key asc ascq text ≡ None
 unfolding pointed_of
-other-key key asc ascq text h = by-range (below key 16)
-  where
-    by-range : (o : Option (key < 16)) → (o >>= λ small. same key 5 >>= λ five. number_of 65535 text >>= λ byte. Some (pointed_sense key asc ascq byte small five)) ≡ None
-    by-range None = refl
-    by-range (Some small) = rw (same-no key 5 (key == 5) refl h) refl
+other-key key asc ascq text h = rw (same-no key 5 (key == 5) refl h) refl
 
 pub no-byte : (key asc ascq : ℕ) (text : List ℕ) → number_of 65535 text ≡ None → pointed_of key asc ascq text ≡ None
 unfolding pointed_of
-no-byte key asc ascq text h = by-range (below key 16)
+no-byte key asc ascq text h = by-key (same key 5)
   where
-    by-key : (small : key < 16) (o : Option (key ≡ 5)) → (o >>= λ five. number_of 65535 text >>= λ byte. Some (pointed_sense key asc ascq byte small five)) ≡ None
-    by-key small None = refl
-    by-key small (Some five) = rw h refl
+    by-key : (o : Option (key ≡ 5)) → (o >>= λ five. number_of 65535 text >>= λ byte. Some (illegal asc ascq (Some (in_cdb byte)))) ≡ None
+    by-key None = refl
+    by-key (Some five) = rw h refl
 
-    by-range : (o : Option (key < 16)) → (o >>= λ small. same key 5 >>= λ five. number_of 65535 text >>= λ byte. Some (pointed_sense key asc ascq byte small five)) ≡ None
-    by-range None = refl
-    by-range (Some small) = by-key small (same key 5)
+pub pointed-made : (key asc ascq byte : ℕ) (text : List ℕ) → key ≡ 5 → number_of 65535 text ≡ Some byte
+    → pointed_of key asc ascq text ≡ Some (illegal asc ascq (Some (in_cdb byte)))
+unfolding pointed_of
+pointed-made key asc ascq byte text five h = rw (same-yes key 5 (key == 5) refl five, h) refl
 
 pub pointed-read : (key asc ascq byte : ℕ) (text : List ℕ) (s : Sense) → key ≡ 5 → number_of 65535 text ≡ Some byte
     → values s ≡ record { key = key; information = None; specific = 0; asc = asc; ascq = ascq; fru = 0; pointer = Some (true, None, byte) } → pointed_of key asc ascq text ≡ Some s
-unfolding pointed_of
 pointed-read key asc ascq byte text s five h v =
-    let small : key < 16 = omega (arith, five) in
-    rw (below-yes key 16 (nat_lt key 16) refl small, same-yes key 5 (key == 5) refl five, h) (ap (λ (x : Sense). Some x) (same_sense (pointed_sense key asc ascq byte small five) s (sym v)))
+    let made : Sense = illegal asc ascq (Some (in_cdb byte)) in
+    let same : values made ≡ values s = ap (λ (k : ℕ). record { key = k; information = None; specific = 0; asc = asc; ascq = ascq; fru = 0; pointer = Some (true, None, byte) }) (sym five) ∙ sym v in
+    pointed-made key asc ascq byte text five h ∙ ap (λ (x : Sense). Some x) (same_sense made s same)
 
 pub great-key : (key asc ascq : ℕ) (text : List ℕ) → bytes_eq text (codes "-") ≡ true → 16 ≤ key → sense_with key asc ascq text ≡ None
 unfolding sense_with

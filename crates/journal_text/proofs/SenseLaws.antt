@@ -15,6 +15,7 @@ use Rattle.sbc_cdbs.specs.Cdbs.{cdb_bytes}
 use Rattle.sense_data.specs.declared.senses.Pointer.{Pointer}
 use Rattle.sense_data.specs.declared.senses.Sense.{Sense}
 use Rattle.sense_data.specs.Reading.{Values, values, pointer_parts}
+use Rattle.sense_data.specs.Illegal.{in_cdb, illegal}
 use Rattle.array_journal.specs.declared.event.Why.{Why}
 use Rattle.array_journal.specs.declared.event.Why.TheVariants.{Illegal, Medium, NotReady, Unfitted, Present, Listed, Second, Clean, Absent, NotLost}
 use Rattle.text_fields.specs.Spelling.{hex_or_dash, upper_nibble, upper_byte, AreBytes}
@@ -23,7 +24,7 @@ use Rattle.text_fields.specs.Reading.{◌>>=◌, cut_at, number_of, data_of, str
 use Rattle.journal_text.specs.Steps.{below, at_most, same}
 use Rattle.journal_text.specs.Cdbs.{zeros-behind, cdb_of}
 use Rattle.journal_text.specs.Words.{spelt_of}
-use Rattle.journal_text.specs.Senses.{upper_of, key_of, code_of, plain_sense, pointed_sense, pointed_of, sense_with, sense_made, sense_of, plain_why_of, illegal_or, why_of}
+use Rattle.journal_text.specs.Senses.{upper_of, key_of, code_of, plain_sense, pointed_of, sense_with, sense_made, sense_of, plain_why_of, illegal_or, why_of}
 use Rattle.journal_text.specs.Lines.{cdb_word_of}
 use Rattle.journal_text.specs.Readable.{IsCdb, IsPointer, IsSense, IsWhy}
 use Rattle.text_fields.proofs.Cuts.{bind-some, above, above-append, above-lower, cut-takes, cut-again, stripped-takes, stripped-again}
@@ -160,13 +161,12 @@ with-takes key asc ascq text s e = by-test (bytes_eq text (codes "-")) (bytes_eq
         subst (λ (t : Sense). IsMade key asc ascq text t) (same_Some (plain_sense key asc ascq x.0) s x.2)
         (record { key_is = refl; asc_is = refl; ascq_is = refl; text_is = dash refl; uninformed = refl; unspecific = refl; no_unit = refl; pointer = tt })
     by-test false dash e =
-        let x = bind-some (below key 16) (λ small. same key 5 >>= λ five. number_of 65535 text >>= λ byte. Some (pointed_sense key asc ascq byte small five)) s e in
-        let y = bind-some (same key 5) (λ five. number_of 65535 text >>= λ byte. Some (pointed_sense key asc ascq byte x.0 five)) s x.2 in
-        let z = bind-some (number_of 65535 text) (λ byte. Some (pointed_sense key asc ascq byte x.0 y.0)) s y.2 in
+        let y = bind-some (same key 5) (λ five. number_of 65535 text >>= λ byte. Some (illegal asc ascq (Some (in_cdb byte)))) s e in
+        let z = bind-some (number_of 65535 text) (λ byte. Some (illegal asc ascq (Some (in_cdb byte)))) s y.2 in
         let n = number-takes 65535 text z.0 (omega arith) z.1 in
         let le : z.0 ≤ 65535 = n.1 in
-        subst (λ (t : Sense). IsMade key asc ascq text t) (same_Some (pointed_sense key asc ascq z.0 x.0 y.0) s z.2)
-        (record { key_is = refl; asc_is = refl; ascq_is = refl; text_is = n.0; uninformed = refl; unspecific = refl; no_unit = refl; pointer = (refl, refl, omega (arith, le)) })
+        subst (λ (t : Sense). IsMade key asc ascq text t) (same_Some (illegal asc ascq (Some (in_cdb z.0))) s z.2)
+        (record { key_is = y.0; asc_is = refl; ascq_is = refl; text_is = n.0; uninformed = refl; unspecific = refl; no_unit = refl; pointer = (refl, refl, omega (arith, le)) })
 
 -- the text of a key, two codes and what is pointed at
 abbrev four : ℕ → ℕ → ℕ → List ℕ → List ℕ

@@ -3,6 +3,7 @@ use Rattle.std.specs.Prelude.{ℕ, ◌≡◌, ◌<◌, ◌+◌, ◌-◌, ◌*◌
 use Rattle.std.specs.Str.{bytes_eq}
 use Rattle.std.proofs.lemmas.Option.{none-some}
 use Rattle.sense_data.specs.declared.senses.Sense.{Sense}
+use Rattle.sense_data.specs.Illegal.{in_cdb, illegal}
 use Rattle.array_journal.specs.declared.event.Why.{Why}
 use Rattle.array_journal.specs.declared.event.Why.TheVariants.{Illegal, Medium, NotReady, Unfitted, Present, Listed, Second, Clean, Absent, NotLost}
 use Rattle.journal_text.specs.Traces.{why_text}
@@ -47,27 +48,12 @@ plain_sense key asc ascq small = record {
   illegal = λ p e. absurd (none-some p e);
 }
 
--- of the key 5, with a byte of the CDB that is in error
-abbrev pub pointed_sense : (key asc ascq byte : ℕ) → key < 16 → key ≡ 5 → Sense
-pointed_sense key asc ascq byte small five = record {
-  key = key;
-  information = None;
-  specific = 0;
-  asc = asc;
-  ascq = ascq;
-  fru = 0;
-  pointer = Some (record { command = true; bit = None; byte = byte; in_byte = λ b e. absurd (none-some b e) });
-  in_range = small;
-  illegal = λ p e. five;
-}
-
--- a sense with a byte in error
+-- a sense with a byte of the CDB that is in error, which only the key 5 has
 unfoldable pub pointed_of : ℕ → ℕ → ℕ → List ℕ → Option Sense
 pointed_of key asc ascq text = do
-  small ← below key 16
   five ← same key 5
   byte ← number_of 65535 text
-  Some (pointed_sense key asc ascq byte small five)
+  Some (illegal asc ascq (Some (in_cdb byte)))
 
 -- a sense, with a dash for no byte in error
 unfoldable pub sense_with : ℕ → ℕ → ℕ → List ℕ → Option Sense

@@ -63,19 +63,7 @@ fn pointed_in(key: u8, asc: u8, ascq: u8, text: &[u8]) -> Option<Sense>
     let Some(byte) = number_u16(text) else {
         return None;
     };
-    Some(Sense {
-        key,
-        information: None,
-        specific: 0,
-        asc,
-        ascq,
-        fru: 0,
-        pointer: Some(Pointer {
-            command: true,
-            bit: None,
-            byte,
-        }),
-    })
+    Some(Sense::illegal(asc, ascq, Some(Pointer::in_cdb(byte))))
 }
 
 /// A sense, with a dash where no byte is in error.
