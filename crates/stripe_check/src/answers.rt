@@ -6,6 +6,7 @@ ghost use Rattle.array_journal.specs.declared.entry.Entry.{Entry};
 ghost use Rattle.array_journal.specs.Host.{is_read, is_degraded_read};
 ghost use Rattle.stripe_check.specs.Folds.{AreCommands, AreReads, AreFailures, told_if};
 
+use crate::call_places::place_of_call;
 use crate::command_summary::{Brief, CommandSummary};
 use crate::commands::command_at;
 use crate::failure::Failure;
@@ -17,13 +18,10 @@ fn add_read(reads: &mut Vec<Bytes>, call: u32, bytes: &[u8]) -> Result<(), Memor
     ensures count { OnOk result (length reads.new.items ≡ length reads.old.items) }
     ensures each { OnOk result ((n : ℕ) → n < length reads.old.items → get_or reads.new.items n [] ≡ get_or reads.old.items n [] ++ (if call == n + 1 then bytes.now else [])) }
 {
-    let number = call as usize;
-    // A journal that isn't what the calls ask for may name any call: bytes of one that isn't there are told
-    // to nobody.
-    if number == 0 || number > reads.len() {
-        return Ok(());
+    match place_of_call(call, reads.len()) {
+        Some(place) => reads[place].push_slice(bytes),
+        None => Ok(()),
     }
-    reads[number - 1].push_slice(bytes)
 }
 
 /// Blocks that a command fetched: a read tells them its call.
@@ -93,9 +91,8 @@ pub fn keep_read(
 fn set_failure(failures: &mut [Option<Failure>], call: u32, failure: Failure)
     ensures { (n : ℕ) → n < length failures.old → get_or failures.new n None ≡ (if call == n + 1 then Some failure else get_or failures.old n None) }
 {
-    let number = call as usize;
-    if number != 0 && number <= failures.len() {
-        failures[number - 1] = Some(failure);
+    if let Some(place) = place_of_call(call, failures.len()) {
+        failures[place] = Some(failure);
     }
 }
 

@@ -5,6 +5,7 @@ mod absent_units;
 mod answers;
 pub mod asked_examples;
 mod call_outcomes;
+mod call_places;
 mod command_summary;
 mod commands;
 mod counts;

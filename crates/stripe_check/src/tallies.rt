@@ -5,6 +5,7 @@ ghost use Rattle.array_journal.specs.declared.entry.Entry.{Entry};
 ghost use Rattle.stripe_check.specs.Folds.{AreCommands, AreTallies};
 ghost use Rattle.stripe_check.specs.Tallies.{is_left, untold, more_done, more_left};
 
+use crate::call_places::place_of_call;
 use crate::command_summary::{CommandSummary, Tally};
 use crate::commands::command_at;
 use array_journal::{Entry, Event, Why};
@@ -21,9 +22,8 @@ fn one_more(count: u64) -> Result<u64, Memory>
 fn add_done(tallies: &mut [Tally], call: u32) -> Result<(), Memory>
     ensures { OnOk result ((n : ℕ) → n < length tallies.old → get_or tallies.new n untold ≡ (if call == n + 1 then more_done (get_or tallies.old n untold) else get_or tallies.old n untold)) }
 {
-    let number = call as usize;
-    if number != 0 && number <= tallies.len() {
-        tallies[number - 1].done = one_more(tallies[number - 1].done)?;
+    if let Some(place) = place_of_call(call, tallies.len()) {
+        tallies[place].done = one_more(tallies[place].done)?;
     }
     Ok(())
 }
@@ -32,9 +32,8 @@ fn add_done(tallies: &mut [Tally], call: u32) -> Result<(), Memory>
 fn add_left(tallies: &mut [Tally], call: u32) -> Result<(), Memory>
     ensures { OnOk result ((n : ℕ) → n < length tallies.old → get_or tallies.new n untold ≡ (if call == n + 1 then more_left (get_or tallies.old n untold) else get_or tallies.old n untold)) }
 {
-    let number = call as usize;
-    if number != 0 && number <= tallies.len() {
-        tallies[number - 1].left = one_more(tallies[number - 1].left)?;
+    if let Some(place) = place_of_call(call, tallies.len()) {
+        tallies[place].left = one_more(tallies[place].left)?;
     }
     Ok(())
 }
