@@ -1,6 +1,6 @@
 -- The test of a close decides whether it may follow.
 use Rattle.array_book.specs.OpenTasks.{passes_task}
-use Rattle.std.proofs.Common.{◌≡◌, ℕ, ◌&&◌, Bool, true, false, List, Option, Some, None, refl, sym, subst}
+use Rattle.std.proofs.Common.{◌≡◌, ℕ, if◌then◌else◌, Bool, true, false, List, Option, Some, None, refl, sym, subst}
 use Rattle.std.specs.Bool.{Decides}
 use Rattle.std.proofs.lemmas.Bool.{false≢true}
 use Rattle.std.proofs.lemmas.Bool.Decides.{Decides-and, Decides-like}
@@ -89,7 +89,7 @@ pub open-with-decided : (past : List Entry) (c : ℕ) (test : Task → Bool) (P 
     Decides (of_open past c test) (SomeTask (λ task. IsOpenWith past c task × P task))
 open-with-decided past c test P each = with (is_open c past) (task_of c past)
   where
-    with : (opened : Bool) (found : Option Task) → Decides (opened && passes_task test found) ((task : Task) × (((opened ≡ true) × (found ≡ Some task)) × P task))
+    with : (opened : Bool) (found : Option Task) → Decides (passes_task test (if opened then found else None)) ((task : Task) × (((opened ≡ true) × (found ≡ Some task)) × P task))
     with true (Some task) = (λ h. (task, ((refl, refl), (each task).0 h)), λ (other, ((o, e), m)). let same : task ≡ other = cc in (each task).1 (subst P (sym same) m))
     with true None = (λ h. absurd (false≢true h), λ (other, ((o, e), m)). absurd (no_task other None refl e))
     with false found = (λ h. absurd (false≢true h), λ (other, ((o, e), m)). absurd (false≢true o))

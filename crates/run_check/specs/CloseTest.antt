@@ -8,10 +8,9 @@ use Rattle.array_journal.specs.declared.task.Kind.TheVariants.{Update}
 use Rattle.array_journal.specs.declared.task.Task.{Task}
 use Rattle.array_journal.specs.declared.act.Act.TheVariants.{Fetches, Puts, Diffs, Takes, Folds, Holds}
 use Rattle.array_journal.specs.Acts.{is_target, targets_that}
-use Rattle.array_journal.specs.Commands.{is_open, task_of}
 use Rattle.array_journal.specs.May.{closed_bytes, shuts_idle}
 use Rattle.array_book.specs.OpenTasks.{passes_task}
-use Rattle.run_check.specs.NameTests.{names_at, rise_after}
+use Rattle.run_check.specs.NameTests.{names_at, open_task, rise_after}
 use Rattle.run_check.specs.ActNameTests.{each_own, all_named, fold_named}
 use Rattle.run_check.specs.Plain.{is_empty, same_kind}
 use Rattle.run_check.specs.CauseTest.{cause_of_loss, is_cause}
@@ -46,4 +45,4 @@ may_close s past stamp c false list (Some cause) bytes task = may_give_up s past
 
 -- a command is open, and its task passes
 abbrev pub of_open : List Entry → ℕ → (Task → Bool) → Bool
-of_open past c test = is_open c past && passes_task test (task_of c past)
+of_open past c test = passes_task test (open_task past c)

@@ -5,6 +5,7 @@ use Rattle.array_journal.specs.declared.entry.Entry.{Entry}
 use Rattle.array_journal.specs.declared.event.Event.{Event}
 use Rattle.array_journal.specs.declared.event.Event.TheVariants.{Open}
 use Rattle.array_journal.specs.declared.task.Task.{Task}
+use Rattle.array_journal.specs.Commands.{is_open, task_of}
 use Rattle.array_journal.specs.Entries.{at_lt, entry_at}
 use Rattle.array_journal.specs.May.{passes}
 
@@ -16,6 +17,10 @@ task_in c _ = None
 -- the task of the command that an entry of the book opens, which is named and has a smaller stamp
 abbrev pub opened_task : List Entry → ℕ → ℕ → At → Option Task
 opened_task past stamp c opened = if (opened.lock == 0) && nat_lt opened.stamp stamp then task_in c (entry_at opened past) else None
+
+-- the task of a command that is open
+abbrev pub open_task : List Entry → ℕ → Option Task
+open_task past c = if is_open c past then task_of c past else None
 
 -- an entry of this name stands with a smaller stamp, and passes
 abbrev pub names : List Entry → ℕ → At → (Event → Bool) → Bool

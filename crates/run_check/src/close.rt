@@ -10,7 +10,7 @@ ghost use Rattle.run_check.specs.CloseTest.{names_acts, may_close_whole, may_clo
 use crate::act_names::{is_all_named, is_each_own, is_fold_named};
 use crate::cause::{is_cause, is_parity_lost};
 use crate::context::{ArrayCommand, Context};
-use crate::names::do_names_rise;
+use crate::names::{do_names_rise, open_task};
 use crate::plain::is_same_kind;
 use crate::sums::sum_over;
 use crate::target_names::names_shuts;
@@ -93,14 +93,13 @@ fn may_close_whole(
     alloc: Global,
     context: &Context,
     command: &ArrayCommand,
-    names: &[At],
-    bytes: &[u8],
+    fields: &CloseFields,
 ) -> Result<bool, Memory>
-    ensures { IfOk result (λ r. r ≡ may_close_whole context.now.setting.now context.now.past.now context.now.stamp command.now.number command.now.task.now names.now bytes.now) }
+    ensures { IfOk result (λ r. r ≡ may_close_whole context.now.setting.now context.now.past.now context.now.stamp command.now.number command.now.task.now fields.now.names.now fields.now.bytes.now) }
 {
-    let acts = names_acts(context, command, names);
-    let folds = is_all_named(context, command, Act::Folds, names);
-    let answer = is_answer(alloc, context, command.task, names, bytes)?;
+    let acts = names_acts(context, command, fields.names);
+    let folds = is_all_named(context, command, Act::Folds, fields.names);
+    let answer = is_answer(alloc, context, command.task, fields.names, fields.bytes)?;
     Ok(acts && folds && answer)
 }
 
@@ -108,33 +107,26 @@ fn may_close_whole(
 fn may_close_unfolded(
     context: &Context,
     command: &ArrayCommand,
-    names: &[At],
+    fields: &CloseFields,
     cause: At,
-    bytes: &[u8],
 ) -> bool
-    ensures { result ≡ may_close_unfolded context.now.setting.now context.now.past.now context.now.stamp command.now.number command.now.task.now names.now cause bytes.now }
+    ensures { result ≡ may_close_unfolded context.now.setting.now context.now.past.now context.now.stamp command.now.number command.now.task.now fields.now.names.now cause fields.now.bytes.now }
 {
     let update = is_same_kind(command.task.kind, Kind::Update);
-    let acts = names_acts(context, command, names);
-    let folded = is_fold_named(context.past, command.number, names);
+    let acts = names_acts(context, command, fields.names);
+    let folded = is_fold_named(context.past, command.number, fields.names);
     let lost = is_parity_lost(context, command.task, cause);
-    let empty = bytes.is_empty();
+    let empty = fields.bytes.is_empty();
     update && acts && !folded && lost && empty
 }
 
 /// Whether a command may close without effect.
-fn may_give_up(
-    context: &Context,
-    command: &ArrayCommand,
-    names: &[At],
-    cause: At,
-    bytes: &[u8],
-) -> bool
-    ensures { result ≡ may_give_up context.now.setting.now context.now.past.now context.now.stamp command.now.number command.now.task.now names.now cause bytes.now }
+fn may_give_up(context: &Context, command: &ArrayCommand, fields: &CloseFields, cause: At) -> bool
+    ensures { result ≡ may_give_up context.now.setting.now context.now.past.now context.now.stamp command.now.number command.now.task.now fields.now.names.now cause fields.now.bytes.now }
 {
-    let shut = names_shuts(context, command, names);
+    let shut = names_shuts(context, command, fields.names);
     let caused = is_cause(context, command, cause);
-    shut && caused && bytes.is_empty()
+    shut && caused && fields.bytes.is_empty()
 }
 
 /// Whether an open command may close.
@@ -146,13 +138,11 @@ fn may_close(
 ) -> Result<bool, Memory>
     ensures { IfOk result (λ r. r ≡ may_close context.now.setting.now context.now.past.now context.now.stamp command.now.number fields.now.done fields.now.names.now fields.now.cause fields.now.bytes.now command.now.task.now) }
 {
-    let names = fields.names;
-    let bytes = fields.bytes;
     match (fields.done, fields.cause) {
-        (true, None) => may_close_whole(alloc, context, command, names, bytes),
-        (true, Some(cause)) => Ok(may_close_unfolded(context, command, names, cause, bytes)),
+        (true, None) => may_close_whole(alloc, context, command, fields),
+        (true, Some(cause)) => Ok(may_close_unfolded(context, command, fields, cause)),
         (false, None) => Ok(false),
-        (false, Some(cause)) => Ok(may_give_up(context, command, names, cause, bytes)),
+        (false, Some(cause)) => Ok(may_give_up(context, command, fields, cause)),
     }
 }
 
@@ -165,17 +155,12 @@ pub fn may_close_open(
 ) -> Result<bool, Memory>
     ensures { IfOk result (λ r. r ≡ of_open context.now.past.now command (may_close context.now.setting.now context.now.past.now context.now.stamp command fields.now.done fields.now.names.now fields.now.cause fields.now.bytes.now)) }
 {
-    if !context.past.is_open(command) {
+    let Some(task) = open_task(context.past, command) else {
         return Ok(false);
-    }
-    match context.past.task_of(command) {
-        Some(task) => {
-            let command = ArrayCommand {
-                number: command,
-                task,
-            };
-            may_close(alloc, context, &command, fields)
-        }
-        None => Ok(false),
-    }
+    };
+    let command = ArrayCommand {
+        number: command,
+        task,
+    };
+    may_close(alloc, context, &command, fields)
 }

@@ -4,7 +4,7 @@ ghost use Rattle.std.specs.Prelude.{◌≡◌, ◌<◌, ◌&&◌, None};
 ghost use Rattle.std.specs.Option.{option_copied};
 ghost use Rattle.array_journal.specs.Entries.{at_lt, entry_at, same_at};
 ghost use Rattle.array_journal.specs.May.{passes, bytes_named};
-ghost use Rattle.run_check.specs.NameTests.{opened_task, names, comes_after, rise_after};
+ghost use Rattle.run_check.specs.NameTests.{open_task, opened_task, names, comes_after, rise_after};
 ghost use Rattle.run_check.specs.Questions.{test_of};
 
 use crate::context::Context;
@@ -27,6 +27,17 @@ pub fn names(context: &Context, name: At, question: Question) -> bool
     ensures { result ≡ names context.now.past.now context.now.stamp name (test_of question) }
 {
     passes(context.past, name, question) && name.stamp < context.stamp
+}
+
+/// The task of a command that is open.
+pub fn open_task<'a>(past: &Past<'a>, command: u32) -> Option<&'a Task>
+    ensures { option_copied result ≡ open_task past.now command }
+{
+    if past.is_open(command) {
+        past.task_of(command)
+    } else {
+        None
+    }
 }
 
 /// The task of the command that an entry of the book opens, which is named and has a smaller stamp.

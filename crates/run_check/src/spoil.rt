@@ -5,7 +5,7 @@ ghost use Rattle.run_check.specs.CloseTest.{of_open};
 ghost use Rattle.run_check.specs.SpoilTest.{lost_delta, may_spoil};
 
 use crate::context::{ArrayCommand, Context};
-use crate::names::{is_same_name, names};
+use crate::names::{is_same_name, names, open_task};
 use crate::plain::is_same_kind;
 use crate::questions::Question;
 use array_journal::{Act, At, Kind};
@@ -45,17 +45,12 @@ fn may_spoil(context: &Context, command: &ArrayCommand, diff: At, loss: At, shut
 pub fn may_spoil_open(context: &Context, command: u32, diff: At, loss: At, shut: At) -> bool
     ensures { result ≡ of_open context.now.past.now command (may_spoil context.now.past.now context.now.stamp command diff loss shut) }
 {
-    if !context.past.is_open(command) {
+    let Some(task) = open_task(context.past, command) else {
         return false;
-    }
-    match context.past.task_of(command) {
-        Some(task) => {
-            let command = ArrayCommand {
-                number: command,
-                task,
-            };
-            may_spoil(context, &command, diff, loss, shut)
-        }
-        None => false,
-    }
+    };
+    let command = ArrayCommand {
+        number: command,
+        task,
+    };
+    may_spoil(context, &command, diff, loss, shut)
 }
