@@ -35,7 +35,7 @@ pub enum Want {
 
 /// The rows that a piece is about, on a target's unit of a stripe, and the line of the table that decides it.
 #[derive(Clone, Copy, Debug, PartialEq, Eq)]
-pub(crate) struct Aim {
+pub struct Aim {
     pub want: Service,
     pub stripe: u32,
     pub target: u8,
@@ -43,29 +43,50 @@ pub(crate) struct Aim {
     pub count: u32,
 }
 
-fn piece_aim(want: Service, piece: &Piece) -> Aim
-    ensures { result ≡ piece_aim want piece.now }
-{
-    Aim {
-        want,
-        stripe: piece.place.stripe,
-        target: piece.place.target,
-        row: piece.place.row,
-        count: piece.count,
+impl Aim {
+    /// The rows of a piece.
+    pub fn of_piece(want: Service, piece: &Piece) -> Aim
+        ensures { result ≡ piece_aim want piece.now }
+    {
+        Aim {
+            want,
+            stripe: piece.place.stripe,
+            target: piece.place.target,
+            row: piece.place.row,
+            count: piece.count,
+        }
     }
-}
 
-/// All rows of a stripe.
-fn unit_aim(geometry: &Geometry, want: Service, stripe: u32, target: u8) -> Aim
-    requires { IsArray geometry.now }
-    ensures { result ≡ unit_aim geometry.now want stripe target }
-{
-    Aim {
-        want,
-        stripe,
-        target,
-        row: geometry.first_row(stripe),
-        count: geometry.unit_rows(stripe),
+    /// All rows of a stripe, at a target.
+    pub fn of_unit(geometry: &Geometry, want: Service, stripe: u32, target: u8) -> Aim
+        requires { IsArray geometry.now }
+        ensures { result ≡ unit_aim geometry.now want stripe target }
+    {
+        Aim {
+            want,
+            stripe,
+            target,
+            row: geometry.first_row(stripe),
+            count: geometry.unit_rows(stripe),
+        }
+    }
+
+    /// The task of a command of a kind at these rows, for a piece of a call, with the bytes that are to be written.
+    pub fn task(&self, geometry: &Geometry, call: u32, piece: u32, kind: Kind, bytes: Bytes) -> Task
+        requires { IsArray geometry.now }
+        ensures { result ≡ task_at geometry.now call piece kind self.now bytes }
+    {
+        Task {
+            call,
+            piece,
+            kind,
+            stripe: self.stripe,
+            target: self.target,
+            parity: geometry.parity(self.stripe),
+            row: self.row,
+            count: self.count,
+            bytes,
+        }
     }
 }
 
@@ -76,14 +97,14 @@ impl Want {
         ensures { result ≡ aim_of geometry.now self.now }
     {
         match self {
-            Want::Read { piece } => Ok(piece_aim(Service::Read, piece)),
-            Want::Write { piece, .. } => Ok(piece_aim(Service::Write, piece)),
+            Want::Read { piece } => Ok(Aim::of_piece(Service::Read, piece)),
+            Want::Write { piece, .. } => Ok(Aim::of_piece(Service::Write, piece)),
             Want::Rebuild { slot, stripe } => {
-                Ok(unit_aim(geometry, Service::Rebuild, *stripe, *slot))
+                Ok(Aim::of_unit(geometry, Service::Rebuild, *stripe, *slot))
             }
             Want::Resync { stripe } => {
                 let parity = geometry.parity(*stripe);
-                Ok(unit_aim(geometry, Service::Resync, *stripe, parity))
+                Ok(Aim::of_unit(geometry, Service::Resync, *stripe, parity))
             }
             Want::Illegal { sense } => Err(*sense),
         }
@@ -101,24 +122,6 @@ impl Want {
 }
 
 impl Ask {
-    /// A task of a kind at some rows, with these bytes.
-    pub(crate) fn task_with(&self, geometry: &Geometry, kind: Kind, aim: &Aim, bytes: Bytes) -> Task
-        requires { IsArray geometry.now }
-        ensures { result ≡ task_at geometry.now self.now.call self.now.piece kind aim.now bytes }
-    {
-        Task {
-            call: self.call,
-            piece: self.piece,
-            kind,
-            stripe: aim.stripe,
-            target: aim.target,
-            parity: geometry.parity(aim.stripe),
-            row: aim.row,
-            count: aim.count,
-            bytes,
-        }
-    }
-
     /// The task of a command of a kind for what is asked, with the bytes that are to be written.
     pub(crate) fn task(
         &self,
@@ -131,6 +134,6 @@ impl Ask {
         ensures { IfOk result (λ task. task ≡ task_at geometry.now self.now.call self.now.piece kind aim.now (bytes_of self.now.want)) }
     {
         let bytes = self.want.bytes(alloc)?;
-        Ok(self.task_with(geometry, kind, aim, bytes))
+        Ok(aim.task(geometry, self.call, self.piece, kind, bytes))
     }
 }

@@ -62,7 +62,7 @@ impl Book {
     {
         // What stands in the way doesn't hang on the bytes, so they need not be copied to know it.
         let bytes = Bytes::new(self.alloc);
-        let task = ask.task_with(&self.setting.geometry, kind, &aim, bytes);
+        let task = aim.task(&self.setting.geometry, ask.call, ask.piece, kind, bytes);
         match self.least_in_way(&task) {
             Some(by) => Verdict::Wait { by },
             None => Verdict::Open { kind, aim },

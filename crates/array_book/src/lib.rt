@@ -32,7 +32,7 @@ mod state;
 mod steps;
 
 pub use answers::{Begun, End, Noted, Swapped};
-pub use asks::{Ask, Want};
+pub use asks::{Aim, Ask, Want};
 pub use conflicts::do_tasks_conflict;
 pub use decision::{Facts, decide};
 pub use ledger::Book;
