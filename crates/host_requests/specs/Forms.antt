@@ -53,11 +53,11 @@ IsWithin g _ = Unit {0}
 
 abbrev pub aim_as : Aim → begins.Aim
 aim_as aim = record {
-  want = aim.wanted;
-  stripe = aim.stripe;
-  target = aim.target;
-  row = aim.row;
-  count = aim.count;
+  want = aim.rows.want;
+  stripe = aim.rows.stripe;
+  target = aim.rows.target;
+  row = aim.rows.row;
+  count = aim.rows.count;
   bytes = payload_bytes aim.bytes;
 }
 

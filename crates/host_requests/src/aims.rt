@@ -10,18 +10,15 @@ ghost use Rattle.host_requests.specs.Requests as requests;
 use crate::payloads::Payload;
 use crate::requests::{Transfer, bytes_due};
 use crate::settings::most_blocks;
+use array_book::Aim as Rows;
 use array_journal::Want;
 use host_scripts::Script;
 use stripe_layout::{Geometry, Piece};
 
-/// What a piece is about: so many rows of a target's unit in a stripe, and the new blocks where it writes.
+/// What a piece is about: some rows of a target's unit in a stripe, and the new blocks where it writes.
 #[derive(Clone, Copy, Debug)]
 pub struct Aim<'a> {
-    pub wanted: Want,
-    pub stripe: u32,
-    pub target: u8,
-    pub row: u32,
-    pub count: u32,
+    pub rows: Rows,
     pub bytes: Payload<'a>,
 }
 
@@ -34,11 +31,7 @@ fn piece_aim<'a>(geometry: &Geometry, transfer: Transfer<'a>, piece: Piece) -> A
     let at = u64::from(piece.first - transfer.lba) * u64::from(geometry.block);
     let due = bytes_due(geometry, transfer.wanted, piece.count);
     Aim {
-        wanted: transfer.wanted,
-        stripe: piece.place.stripe,
-        target: piece.place.target,
-        row: piece.place.row,
-        count: piece.count,
+        rows: Rows::of_piece(transfer.wanted, &piece),
         bytes: transfer.bytes.part(at, due),
     }
 }
@@ -50,11 +43,7 @@ fn unit_aim(geometry: &Geometry, wanted: Want, stripe: u32, target: u8) -> Aim<'
     ensures { aim_as result ≡ unit_aim geometry.now wanted stripe target }
 {
     Aim {
-        wanted,
-        stripe,
-        target,
-        row: geometry.first_row(stripe),
-        count: geometry.unit_rows(stripe),
+        rows: Rows::of_unit(geometry, wanted, stripe, target),
         bytes: Payload::none(),
     }
 }

@@ -27,17 +27,7 @@ impl<'a> Aim<'a> {
         ensures { IfOk result (λ task. task ≡ task_of_piece geometry.now call piece (aim_as self.entry) kind) }
     {
         let bytes = self.bytes.copy(alloc)?;
-        Ok(Task {
-            call,
-            piece,
-            kind,
-            stripe: self.stripe,
-            target: self.target,
-            parity: geometry.parity(self.stripe),
-            row: self.row,
-            count: self.count,
-            bytes,
-        })
+        Ok(self.rows.task(geometry, call, piece, kind, bytes))
     }
 
     /// Whether a task is the one that a command of this kind serves the aim by.
@@ -46,7 +36,7 @@ impl<'a> Aim<'a> {
         ensures { IsTrue result ↔ (task_of_piece geometry.now task.now.call task.now.piece (aim_as self.entry) kind ≡ task.now) }
     {
         let same_kind = is_same_kind(kind, task.kind);
-        let parity = geometry.parity(self.stripe);
+        let parity = geometry.parity(self.rows.stripe);
         let places = self.has_places(parity, task);
         let bytes = self.bytes.is(task.bytes.as_slice());
         both(both(same_kind, places), bytes)
@@ -55,11 +45,11 @@ impl<'a> Aim<'a> {
     fn has_places(self, parity: u8, task: &Task) -> bool
         ensures { result ≡ same_places (aim_as self.entry) parity task.now }
     {
-        self.stripe == task.stripe
-            && self.target == task.target
+        self.rows.stripe == task.stripe
+            && self.rows.target == task.target
             && parity == task.parity
-            && self.row == task.row
-            && self.count == task.count
+            && self.rows.row == task.row
+            && self.rows.count == task.count
     }
 }
 

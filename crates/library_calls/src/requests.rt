@@ -3,6 +3,7 @@
 ghost use Rattle.std.specs.Prelude.{◌≡◌, ◌≤◌};
 ghost use Rattle.stripe_layout.specs.Layout.{IsArray, capacity_of};
 
+use array_book::Aim as Rows;
 use array_journal::{Kind, Task, Want};
 use blocks_core::{Bytes, Memory};
 use host_requests::{Aim, Payload};
@@ -53,14 +54,15 @@ fn push_piece(text: &mut Bytes, piece: &Piece) -> Result<(), Memory> {
 
 /// An update of one block in the second stripe, for the third piece of the fifth call.
 fn push_task(alloc: Global, text: &mut Bytes) -> Result<(), Memory> {
-    let aim = Aim {
-        wanted: Want::Write,
+    let rows = Rows {
+        want: Want::Write,
         stripe: 1,
         target: 0,
         row: 2,
         count: 1,
-        bytes: Payload::Given(&[1, 2, 3, 4, 5, 6, 7, 8]),
     };
+    let bytes = Payload::Given(&[1, 2, 3, 4, 5, 6, 7, 8]);
+    let aim = Aim { rows, bytes };
     let task = aim.task(alloc, &small_array(), 5, 2, Kind::Update)?;
     push_numbers(text, &task)?;
     if task.kind == Kind::Update {

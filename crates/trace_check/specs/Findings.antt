@@ -109,6 +109,11 @@ pub record IsRunIn (parts : Parts) (script : Script) (journal : List Entry) : Ty
   pub asked : IsAsked script journal
   pub report : parts.report ≡ report_of script journal
 
+-- the journal is a run and what the script's calls ask for, this is its report, and it has so many entries
+abbrev pub IsReported : Script → List Entry → List ℕ → ℕ → Type 0
+IsReported script journal report entries =
+    Run (setting_of script) journal × IsAsked script journal × (report ≡ report_of script journal) × (entries ≡ length journal)
+
 abbrev pub IsJournalOf : List ℕ → List Entry → Type 0
 IsJournalOf trace journal = readable.SpellsTrace trace journal
 

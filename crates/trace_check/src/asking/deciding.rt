@@ -31,11 +31,11 @@ pub fn both(a: bool, b: bool) -> bool
 /// What the book decides of an aim, after the entries so far.
 fn decision_of(script: &Script, past: &Past, aim: Aim) -> Decision
     requires { IsScript script.now }
-    ensures { result ≡ decision (setting_of script.now) aim.entry.wanted aim.entry.stripe aim.entry.target past.now }
+    ensures { result ≡ decision (setting_of script.now) aim.entry.rows.want aim.entry.rows.stripe aim.entry.rows.target past.now }
 {
     let setting = setting_of(script);
-    let facts = past.facts(&setting, aim.stripe, usize::from(aim.target));
-    decide(aim.wanted, &facts)
+    let facts = past.facts(&setting, aim.rows.stripe, usize::from(aim.rows.target));
+    decide(aim.rows.want, &facts)
 }
 
 /// What becomes of what a piece asks.

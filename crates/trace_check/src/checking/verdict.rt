@@ -10,8 +10,7 @@ ghost use Rattle.host_scripts.specs.Limits.{limit_of};
 ghost use Rattle.outer_io.specs.Outside.{input_limit};
 ghost use Rattle.stripe_check.specs.Asked.{IsAsked};
 ghost use Rattle.host_requests.specs.Settings.{setting_of};
-ghost use Rattle.stripe_check.specs.Reports.{report_of};
-ghost use Rattle.trace_check.specs.Findings.{IsFound, IsFoundIn, IsFoundOf, IsRunIn, IsScriptFault, IsTraceFault, IsJournalOf};
+ghost use Rattle.trace_check.specs.Findings.{IsFound, IsFoundIn, IsFoundOf, IsReported, IsRunIn, IsScriptFault, IsTraceFault, IsJournalOf};
 ghost use Rattle.program_status.specs.Words.{texts};
 ghost use Rattle.program_status.specs.Endings.{AfterReading, IsInputTaken};
 ghost use Rattle.trace_check.specs.Endings.{AsksCheck, IsTold, IsRunOf, StopsBy, StopsCheck, StopsFor};
@@ -172,7 +171,7 @@ fn judge_run(
     requires calls { length script.now.calls < 2 ^ 32 }
     requires rises { Rises journal.now }
     requires few { length journal.now < 2 ^ 32 }
-    ensures told { IfOk result (λ entries. Run (setting_of script.now) journal.now × IsAsked script.now journal.now × (told.now ≡ report_of script.now journal.now) × (entries ≡ length journal.now)) }
+    ensures told { IfOk result (λ entries. IsReported script.now journal.now told.now entries) }
     ensures stop { IfErr result (λ stop. StopsBy (IsFoundOf script.now journal.now told.now) stop) }
 {
     match judge_journal(alloc, script, journal)? {
@@ -192,7 +191,7 @@ fn judge_report(
     requires script { IsScript script.now }
     requires run { Run (setting_of script.now) journal.now }
     requires asked { IsAsked script.now journal.now }
-    ensures told { IfOk result (λ entries. Run (setting_of script.now) journal.now × IsAsked script.now journal.now × (told.now ≡ report_of script.now journal.now) × (entries ≡ length journal.now)) }
+    ensures told { IfOk result (λ entries. IsReported script.now journal.now told.now entries) }
     ensures stop { IfErr result (λ stop. StopsBy (IsFoundOf script.now journal.now told.now) stop) }
 {
     let text = report(alloc, script, journal)?;
