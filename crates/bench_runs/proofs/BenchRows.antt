@@ -59,7 +59,7 @@ targets-next bench n =
     ap (λ (k : ℕ). map (first_target bench) (numbers 0 k)) next ∙ targets-more bench 0 n
     ∙ ap (λ (i : ℕ). map (first_target bench) (numbers 0 n) ++ first_target bench i ∷ []) same
 
-count-from : (bench : Bench) (n count : ℕ) → length (map (first_target bench) (numbers n count)) ≡ count
+pub count-from : (bench : Bench) (n count : ℕ) → length (map (first_target bench) (numbers n count)) ≡ count
 count-from bench n zero = refl
 count-from bench n (suc count) = ap suc (count-from bench (suc n) count)
 

@@ -1,6 +1,6 @@
 -- A line leaves all as it is to stand before the next one, with the requests that come of it.
 use Rattle.std.proofs.lemmas.Option.{same_Some}
-use Rattle.std.proofs.Common.{◌≡◌, ◌≤◌, ◌+◌, max, ℕ, zero, suc, false, true, List, ◌∷◌, Some, None, refl, sym, ap, subst, ◌∙◌, inl, inr, arith}
+use Rattle.std.proofs.Common.{◌≡◌, ◌≤◌, ◌+◌, max, ℕ, zero, suc, true, List, Some, None, refl, sym, ap, subst, ◌∙◌, inl, inr, arith}
 use Rattle.array_journal.specs.declared.at.At.{At}
 use Rattle.array_journal.specs.declared.event.Event.{Event}
 use Rattle.array_journal.specs.declared.event.Event.TheVariants as events
@@ -14,13 +14,14 @@ use Rattle.xor_target.specs.declared.answer.GoneAt.{GoneAt}
 use Rattle.xor_target.specs.declared.answer.PeerBack.{PeerBack}
 use Rattle.xor_target.specs.declared.answer.PeerBack.TheVariants as back
 use Rattle.xor_target.specs.State.{TargetState, is_waiting}
-use Rattle.xor_target.specs.Answers.{IsAnswered, next_entry, next_stamp, loss_here}
+use Rattle.xor_target.specs.Answers.{IsAnswered, next_stamp, loss_here}
 use Rattle.xor_target.specs.Befalls.{IsLost, IsReset, IsDropping, IsFresh, reset_event, drop_event}
 use Rattle.xor_target.specs.Resumes.{IsResumed}
 use Rattle.xor_target.specs.Rigs.{Turns, IsAsked, IsHanded, IsCarried, Returns, AskedWants, SenderWants, IsSettled, IsRigAnswer, asks_further, handed_back, greatest_stamp, stamp_with}
 use Rattle.xor_target.specs.Logs.{last_stamp}
 use Rattle.xor_target.specs.Waits.{sends}
 use Rattle.xor_target.proofs.RigAnswers.{none-filtered, same-waits}
+use Rattle.bench_runs.specs.declared.line_answer.LineAnswer.{LineAnswer}
 use Rattle.bench_runs.specs.BenchRuns.{IsDoneBy, newest_stamp, line_order, no_entry}
 use Rattle.bench_runs.specs.Ready.{IsReady}
 use Rattle.bench_runs.proofs.Grown.{Grows, Follows, Past, Still, Asked, Made, answered-grows, past-by, plain-follows, resumed-grows, one-grows}
@@ -162,20 +163,20 @@ later-ready number ts ready = record {
   stamped = ready.stamped;
 }
 
-asked-ready : (number k : ℕ) (ts : List TargetState) (action : BenchAction) (after : List TargetState) (told : List ℕ) → IsReady (number + 1) ts → IsDoneBy number ts k action after told → IsReady (number + 1) after
-asked-ready number k ts (Raw cdb bytes) after told ready (answer, (is, text)) = order-ready number k ts cdb bytes answer after ready is
-asked-ready number k ts Lose after told ready (turn, text) =
+asked-ready : (number k : ℕ) (ts : List TargetState) (action : BenchAction) (after : List TargetState) (came : LineAnswer) → IsReady (number + 1) ts → IsDoneBy number ts k action after came → IsReady (number + 1) after
+asked-ready number k ts (Raw cdb bytes) after came ready (answer, (is, same)) = order-ready number k ts cdb bytes answer after ready is
+asked-ready number k ts Lose after came ready (turn, same) =
     ready-turn number k (λ t next. (answer : GoneAt) × IsLost t number (newest_stamp ts) answer next) ts after ready turn
     (lost-grows number (newest_stamp ts) turn.before turn.comes.0 turn.now turn.comes.1)
-asked-ready number k ts Reset after told ready (turn, text) =
+asked-ready number k ts Reset after came ready (turn, same) =
     ready-turn number k (λ t next. (at : At) × IsReset t number (newest_stamp ts) at next) ts after ready turn
     (reset-grows number (newest_stamp ts) turn.before turn.comes.0 turn.now turn.comes.1)
-asked-ready number k ts DropNext after told ready (turn, text) =
+asked-ready number k ts DropNext after came ready (turn, same) =
     ready-turn number k (λ t next. (at : At) × IsDropping t number (newest_stamp ts) at next) ts after ready turn
     (dropping-grows number (newest_stamp ts) turn.before turn.comes.0 turn.now turn.comes.1)
-asked-ready number k ts Fresh after told ready (turn, text) =
+asked-ready number k ts Fresh after came ready (turn, same) =
     ready-turn number k (λ t next. IsFresh t number no_entry (newest_stamp ts) next) ts after ready turn
     (fresh-grows number (newest_stamp ts) turn.before turn.now turn.comes)
 
-pub line-ready : (number k : ℕ) (ts : List TargetState) (action : BenchAction) (after : List TargetState) (told : List ℕ) → IsReady number ts → IsDoneBy number ts k action after told → IsReady (number + 1) after
-line-ready number k ts action after told ready done = asked-ready number k ts action after told (later-ready number ts ready) done
+pub line-ready : (number k : ℕ) (ts : List TargetState) (action : BenchAction) (after : List TargetState) (came : LineAnswer) → IsReady number ts → IsDoneBy number ts k action after came → IsReady (number + 1) after
+line-ready number k ts action after came ready done = asked-ready number k ts action after came (later-ready number ts ready) done

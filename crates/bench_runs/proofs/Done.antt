@@ -5,7 +5,7 @@ use Rattle.std.proofs.lemmas.List.{append-nil}
 use Rattle.host_scripts.specs.declared.bench.BenchLine.{BenchLine}
 use Rattle.xor_target.specs.State.{TargetState}
 use Rattle.bench_runs.specs.Answers.{numbered}
-use Rattle.bench_runs.specs.BenchRuns.{IsStep, AreDone}
+use Rattle.bench_runs.specs.BenchRuns.{IsToldStep, AreDone}
 
 -- what is left begins with the next line
 next-left : (lines : List BenchLine) (place : ℕ) (l : BenchLine) → place < length lines → l ≡ get_or lines place l → drop place lines ≡ l ∷ drop (suc place) lines
@@ -18,7 +18,7 @@ abbrev pub GoesOn : List TargetState → List BenchLine → ℕ → List TargetS
 GoesOn start lines place st text = (after : List TargetState) (rest : List ℕ) → AreDone (place + 1) st (drop place lines) after rest → AreDone 1 start lines after (text ++ rest)
 
 pub line-done : (start : List TargetState) (lines : List BenchLine) (place : ℕ) (l : BenchLine) (st mid : List TargetState) (text told : List ℕ) →
-    place < length lines → l ≡ get_or lines place l → GoesOn start lines place st text → IsStep (place + 1) st l mid told → GoesOn start lines (place + 1) mid (text ++ numbered (place + 1) told)
+    place < length lines → l ≡ get_or lines place l → GoesOn start lines place st text → IsToldStep (place + 1) st l mid told → GoesOn start lines (place + 1) mid (text ++ numbered (place + 1) told)
 line-done start lines place l st mid text told below is goes step after rest done =
     let Done : List BenchLine → Type 0 = λ left. AreDone (place + 1) st left after (numbered (place + 1) told ++ rest) in
     let next : AreDone (suc (place + 1)) mid (drop (place + 1) lines) after rest = subst (λ (n : ℕ). AreDone n mid (drop (place + 1) lines) after rest) (omega arith) done in

@@ -111,7 +111,7 @@ sent t order said next command second count address (Loses struck says) =
 
 gathered : (t : TargetState) (order : Order) (said : Answer) (next : TargetState) (command : Command) → IsGathered true t order command said next → Past order.owner order.stamp said t next
 gathered t order said next command (Alone g first none does) =
-    subst (λ (owner : ℕ). Past owner order.stamp said t next) (ap (λ (o : Order). o.owner) first.of_order) (acted t (done_order g [] order.stamp) said next command does)
+    subst (λ (owner : ℕ). Past owner order.stamp said t next) (ap (λ (o : Order). o.owner) first.of_order) (acted t (done_order g [] [] order.stamp) said next command does)
 gathered t order said next command (Begins g source first asks says after) =
     Asked (ap past_in after) (subst (Follows order.owner (newest_stamp t.past order.stamp)) (sym says) (ap (λ (o : Order). o.owner) first.of_order, refl))
 
@@ -248,7 +248,7 @@ continued number stamp t owner bytes made answer next same c = by c.continued
       past = Asked (ap past_in after) (subst (Follows number (newest_stamp t.past stamp)) (sym says) (c.own ∙ same, refl));
     }
     by (Finishes done none acts says) =
-        let order = done_order c.gathering bytes stamp in
+        let order = done_order c.gathering (c.waiting.made ++ made) bytes stamp in
         let command = c.gathering.admitted.command in
         let place = acted-place true (no_longer t owner) order command done next acts in
         let ends : asks_further answer ≡ false = ap asks_further says ∙ named-ends (c.waiting.made ++ made) done (acted-ends true (no_longer t owner) order command done next acts) in

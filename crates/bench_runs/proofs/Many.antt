@@ -15,6 +15,7 @@ use Rattle.xor_target.specs.Befalls.{IsLost, IsReset, IsDropping, IsFresh}
 use Rattle.xor_target.specs.Resumes.{IsResumed}
 use Rattle.xor_target.specs.Rigs.{IsAsked, IsHanded, IsCarried, Returns, AskedWants, SenderWants, IsSettled, stamp_with}
 use Rattle.xor_target.proofs.RigRows.{as-many}
+use Rattle.bench_runs.specs.declared.line_answer.LineAnswer.{LineAnswer}
 use Rattle.bench_runs.specs.BenchRuns.{IsDoneBy, newest_stamp, line_order, no_entry}
 
 asked-many : (request : PeerRequest) (said : Answer) (ts after : List TargetState) → IsAsked true request said ts after → length after ≡ length ts
@@ -37,11 +38,11 @@ settled-many zero said answer ts after (ends, says, same) = ap length same
 settled-many (suc n) said answer ts after (request, made, next, carried, says, carry, rest) =
     settled-many n next answer carried after rest ∙ carried-many request next ts carried carry
 
-pub line-many : (number k : ℕ) (ts : List TargetState) (action : BenchAction) (after : List TargetState) (told : List ℕ) → IsDoneBy number ts k action after told → length after ≡ length ts
-line-many number k ts (Raw cdb bytes) after told (answer, (is, text)) =
+pub line-many : (number k : ℕ) (ts : List TargetState) (action : BenchAction) (after : List TargetState) (came : LineAnswer) → IsDoneBy number ts k action after came → length after ≡ length ts
+line-many number k ts (Raw cdb bytes) after came (answer, (is, same)) =
     settled-many is.requests is.said answer is.told after is.settled
     ∙ as-many k (λ t now. IsAnswered true t (line_order number (newest_stamp ts) cdb bytes) is.said now) ts is.told is.executes
-line-many number k ts Lose after told (turn, text) = as-many k (λ t next. (answer : GoneAt) × IsLost t number (newest_stamp ts) answer next) ts after turn
-line-many number k ts Reset after told (turn, text) = as-many k (λ t next. (at : At) × IsReset t number (newest_stamp ts) at next) ts after turn
-line-many number k ts DropNext after told (turn, text) = as-many k (λ t next. (at : At) × IsDropping t number (newest_stamp ts) at next) ts after turn
-line-many number k ts Fresh after told (turn, text) = as-many k (λ t next. IsFresh t number no_entry (newest_stamp ts) next) ts after turn
+line-many number k ts Lose after came (turn, same) = as-many k (λ t next. (answer : GoneAt) × IsLost t number (newest_stamp ts) answer next) ts after turn
+line-many number k ts Reset after came (turn, same) = as-many k (λ t next. (at : At) × IsReset t number (newest_stamp ts) at next) ts after turn
+line-many number k ts DropNext after came (turn, same) = as-many k (λ t next. (at : At) × IsDropping t number (newest_stamp ts) at next) ts after turn
+line-many number k ts Fresh after came (turn, same) = as-many k (λ t next. IsFresh t number no_entry (newest_stamp ts) next) ts after turn

@@ -1,5 +1,5 @@
 -- Which entries an order names that is answered GOOD: none, or the one that it made.
-use Rattle.std.proofs.Common.{true, ◌≡◌, ◌⊎◌, ℕ, List, [], ◌∷◌, ap, sym, ◌∙◌, inl, inr}
+use Rattle.std.proofs.Common.{true, ◌≡◌, ◌⊎◌, ℕ, List, [], ◌∷◌, ap, inl, inr}
 use Rattle.array_journal.specs.declared.at.At.{At}
 use Rattle.array_journal.specs.declared.entry.Entry.{Entry}
 use Rattle.array_journal.specs.declared.event.Event.{Event}
@@ -7,7 +7,7 @@ use Rattle.sbc_cdbs.specs.declared.commands.Command.{Command}
 use Rattle.sbc_cdbs.specs.declared.commands.Command.TheVariants.{Read, Write, XdWrite, XpWrite, XdRead, XdWriteRead, ModeSelect, ModeSense, XdWriteExtended, Rebuild, Regenerate}
 use Rattle.xor_target.specs.declared.order.Order.{Order}
 use Rattle.xor_target.specs.declared.answer.Answer.{Answer}
-use Rattle.xor_target.specs.declared.answer.Answer.TheVariants.{Good, Check, Gone, Shut, Peer, Memory}
+use Rattle.xor_target.specs.declared.answer.Answer.TheVariants.{Good}
 use Rattle.xor_target.specs.Admission.{command_in}
 use Rattle.xor_target.specs.Gathers.{done_order}
 use Rattle.xor_target.specs.State.{TargetState}
@@ -37,7 +37,7 @@ sent t order said next command second count address bytes made is (Loses struck 
 
 gathered : (t : TargetState) (order : Order) (said : Answer) (next : TargetState) (command : Command) (bytes : List ℕ) (made : List At) → said ≡ Good bytes made →
     IsGathered true t order command said next → Named order.stamp made t next
-gathered t order said next command bytes made is (Alone g first none does) = acted t (done_order g [] order.stamp) said next command bytes made is does
+gathered t order said next command bytes made is (Alone g first none does) = acted t (done_order g [] [] order.stamp) said next command bytes made is does
 gathered t order said next command bytes made is (Begins g source first asks says after) = absurd cc
 
 executed : (t : TargetState) (order : Order) (said : Answer) (next : TargetState) (command : Command) (bytes : List ℕ) (made : List At) → said ≡ Good bytes made →

@@ -5,6 +5,8 @@ use Rattle.text_fields.specs.Spelling.{line}
 use Rattle.answer_text.specs.Answers.{sense_check, check_text, good_text}
 use Rattle.xor_target.specs.declared.answer.Answer.{Answer}
 use Rattle.xor_target.specs.declared.answer.Answer.TheVariants.{Good, Check, Gone, Shut, Peer, Memory}
+use Rattle.bench_runs.specs.declared.line_answer.LineAnswer.{LineAnswer}
+use Rattle.bench_runs.specs.declared.line_answer.LineAnswer.TheVariants.{Answered, Done}
 
 -- the answer to a command; no line shuts an owner, so no line meets a shut, and a request is carried before anything is told
 abbrev pub answer_text : Answer → Option (List ℕ)
@@ -18,6 +20,11 @@ answer_text Memory = None
 -- what is told of a loss, a reset, a drop and a fresh disk
 abbrev pub done_text : List ℕ
 done_text = codes "done"
+
+-- what is told of what a line came to
+abbrev pub told_text : LineAnswer → Option (List ℕ)
+told_text (Answered answer) = answer_text answer
+told_text Done = Some done_text
 
 -- the line of the line with a number
 abbrev pub numbered : ℕ → List ℕ → List ℕ

@@ -18,7 +18,9 @@ use Rattle.xor_target.specs.Logs.{last_stamp}
 use Rattle.xor_target.specs.State.{TargetState}
 use Rattle.xor_target.specs.Befalls.{IsLost, IsReset, IsDropping, IsFresh}
 use Rattle.xor_target.specs.Rigs.{Turns, IsRigAnswer}
-use Rattle.bench_runs.specs.Answers.{answer_text, done_text, numbered}
+use Rattle.bench_runs.specs.declared.line_answer.LineAnswer.{LineAnswer}
+use Rattle.bench_runs.specs.declared.line_answer.LineAnswer.TheVariants.{Answered, Done}
+use Rattle.bench_runs.specs.Answers.{told_text, numbered}
 
 -- ---- before the first line
 
@@ -62,28 +64,34 @@ no_entry = record { stamp = 0; lock = 0 }
 abbrev pub line_order : ℕ → ℕ → List ℕ → List ℕ → Order
 line_order number stamp cdb bytes = record { owner = number; opened = no_entry; names = []; stamp = stamp; cdb = cdb; bytes = bytes }
 
--- What is asked of target k by the line with a number is done, and this is told of it. A command is done by the row, which carries
+-- What is asked of target k by the line with a number is done, and it comes to this. A command is done by the row, which carries
 -- the requests that come of it; the rest is done by the target alone. No medium ever fails.
-abbrev pub IsDoneBy : ℕ → List TargetState → ℕ → BenchAction → List TargetState → List ℕ → Type 0
-IsDoneBy number ts k (Raw cdb bytes) after told =
-    (answer : Answer) × (IsRigAnswer true ts k (line_order number (newest_stamp ts) cdb bytes) answer after × (answer_text answer ≡ Some told))
-IsDoneBy number ts k Lose after told = Turns k (λ t next. (answer : GoneAt) × IsLost t number (newest_stamp ts) answer next) ts after × (told ≡ done_text)
-IsDoneBy number ts k Reset after told = Turns k (λ t next. (at : At) × IsReset t number (newest_stamp ts) at next) ts after × (told ≡ done_text)
-IsDoneBy number ts k DropNext after told = Turns k (λ t next. (at : At) × IsDropping t number (newest_stamp ts) at next) ts after × (told ≡ done_text)
-IsDoneBy number ts k Fresh after told = Turns k (λ t next. IsFresh t number no_entry (newest_stamp ts) next) ts after × (told ≡ done_text)
+abbrev pub IsDoneBy : ℕ → List TargetState → ℕ → BenchAction → List TargetState → LineAnswer → Type 0
+IsDoneBy number ts k (Raw cdb bytes) after came =
+    (answer : Answer) × (IsRigAnswer true ts k (line_order number (newest_stamp ts) cdb bytes) answer after × (came ≡ Answered answer))
+IsDoneBy number ts k Lose after came = Turns k (λ t next. (answer : GoneAt) × IsLost t number (newest_stamp ts) answer next) ts after × (came ≡ Done)
+IsDoneBy number ts k Reset after came = Turns k (λ t next. (at : At) × IsReset t number (newest_stamp ts) at next) ts after × (came ≡ Done)
+IsDoneBy number ts k DropNext after came = Turns k (λ t next. (at : At) × IsDropping t number (newest_stamp ts) at next) ts after × (came ≡ Done)
+IsDoneBy number ts k Fresh after came = Turns k (λ t next. IsFresh t number no_entry (newest_stamp ts) next) ts after × (came ≡ Done)
 
--- the line with a number is done at the target that it names
-abbrev pub IsStep : ℕ → List TargetState → BenchLine → List TargetState → List ℕ → Type 0
-IsStep number ts l after told = IsDoneBy number ts l.target l.action after told
+-- the line with a number is done at the target that it names, and comes to this
+abbrev pub IsStep : ℕ → List TargetState → BenchLine → List TargetState → LineAnswer → Type 0
+IsStep number ts l after came = IsDoneBy number ts l.target l.action after came
 
 -- ---- all lines
+
+-- A line is done, and this is told of what it came to; so that wasn't want of memory, which isn't told.
+pub record IsToldStep (number : ℕ) (ts : List TargetState) (l : BenchLine) (after : List TargetState) (told : List ℕ) : Type 0 where
+  pub came : LineAnswer
+  pub step : IsStep number ts l after came
+  pub tells : told_text came ≡ Some told
 
 -- the lines, numbered from this one on, are done in turn; a line of text for each
 abbrev pub AreDone : ℕ → List TargetState → List BenchLine → List TargetState → List ℕ → Type 0
 AreDone number ts [] after text = (after ≡ ts) × (text ≡ [])
 AreDone number ts (l ∷ lines) after text =
     (next : List TargetState) × ((told : List ℕ) × ((rest : List ℕ) ×
-    (IsStep number ts l next told × AreDone (suc number) next lines after rest × (text ≡ numbered number told ++ rest))))
+    (IsToldStep number ts l next told × AreDone (suc number) next lines after rest × (text ≡ numbered number told ++ rest))))
 
 -- the entries of each target, the oldest first, behind those of the book, which are none
 abbrev pub lists_of : List TargetState → List (List Entry)

@@ -1,14 +1,15 @@
 //! What is told of a line.
 
 ghost use Rattle.std.specs.Prelude.{◌≡◌, ◌++◌, ℕ, List, Some, OnOk};
-ghost use Rattle.bench_runs.specs.Answers.{answer_text, done_text};
+ghost use Rattle.bench_runs.specs.Answers.{answer_text, told_text};
 
+use crate::line_answer::LineAnswer;
 use answer_text::{check_of, push_check, push_good};
 use blocks_core::{Bytes, Memory};
 use xor_target::Answer;
 
 /// What a target answered.
-pub fn push_answer(text: &mut Bytes, answer: &Answer) -> Result<(), Memory>
+fn push_answer(text: &mut Bytes, answer: &Answer) -> Result<(), Memory>
     ensures { OnOk result ((told : List ℕ) × ((answer_text answer.now ≡ Some told) × (text.new ≡ text.old ++ told))) }
 {
     match answer {
@@ -20,9 +21,12 @@ pub fn push_answer(text: &mut Bytes, answer: &Answer) -> Result<(), Memory>
     }
 }
 
-/// What befell a target.
-pub fn push_done(text: &mut Bytes) -> Result<(), Memory>
-    ensures { OnOk result (text.new ≡ text.old ++ done_text) }
+/// What a line came to.
+pub fn push_told(text: &mut Bytes, came: &LineAnswer) -> Result<(), Memory>
+    ensures { OnOk result ((told : List ℕ) × ((told_text came.now ≡ Some told) × (text.new ≡ text.old ++ told))) }
 {
-    text.push_slice(b"done")
+    match came {
+        LineAnswer::Answered(answer) => push_answer(text, answer),
+        LineAnswer::Done => text.push_slice(b"done"),
+    }
 }

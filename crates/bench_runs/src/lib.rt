@@ -4,7 +4,10 @@
 
 mod answers;
 mod bench_run;
+mod line_answer;
 mod lines;
 mod rows;
 
 pub use bench_run::{BenchRun, run_bench};
+pub use line_answer::LineAnswer;
+pub use rows::{answer_line, first_row};

@@ -1,15 +1,17 @@
 //! The row of a bench's targets.
 
-ghost use Rattle.std.specs.Prelude.{◌≡◌, ◌<◌, ◌≤◌, ◌+◌, ◌^◌, ◌++◌, ℕ, List, length, OnOk, IfOk};
+ghost use Rattle.std.specs.Prelude.{◌≡◌, ◌<◌, ◌≤◌, ◌+◌, ◌^◌, ◌++◌, ℕ, List, Some, length, OnOk, IfOk};
 ghost use Rattle.std.specs.List.{AllByRecursion};
 ghost use Rattle.array_journal.specs.EntryLists.{lists_in};
 ghost use Rattle.array_journal.specs.OneJournal.{journal_of, AreKept};
 ghost use Rattle.host_scripts.specs.Benches.{IsBench};
 ghost use Rattle.xor_target.specs.Logs.{last_stamp};
-ghost use Rattle.bench_runs.specs.Answers.{numbered};
-ghost use Rattle.bench_runs.specs.BenchRuns.{first_targets, newest_stamp, lists_of, IsStep, AreDone};
+ghost use Rattle.bench_runs.specs.Answers.{told_text, numbered};
+ghost use Rattle.bench_runs.specs.BenchRuns.{first_targets, newest_stamp, lists_of, IsStep, IsToldStep, AreDone};
 ghost use Rattle.bench_runs.specs.Ready.{IsReady};
 
+use crate::answers::push_told;
+use crate::line_answer::LineAnswer;
 use crate::lines::{Asker, act};
 use array_journal::{Entries, Journal, merge};
 use blocks_core::{Bytes, Memory};
@@ -32,7 +34,9 @@ const FIRST_PAGE: XorPage = XorPage {
 /// Targets to which nothing happened, over media in memory.
 pub fn first_row(alloc: Global, bench: &Bench) -> Result<Rig<MemoryMedium>, Memory>
     requires { IsBench bench.now }
-    ensures { IfOk result (λ row. row ≡ first_targets bench.now) }
+    ensures value { IfOk result (λ row. row ≡ first_targets bench.now) }
+    ensures ready { IfOk result (λ row. IsReady 1 row) }
+    ensures count { IfOk result (λ row. length row ≡ bench.now.targets) }
 {
     let mut targets = Vec::new(alloc);
     for number in 0..bench.targets {
@@ -71,6 +75,38 @@ fn newest_stamp(targets: &[Target<MemoryMedium>]) -> u64
     newest
 }
 
+/// Does the line with a number at its target, with the requests that come of it. Want of memory is answered as
+/// `Err`, or by the target itself as `Answered(Memory)`; after `Err` nothing is said of what the targets are.
+pub fn answer_line(
+    alloc: Global,
+    row: &mut Rig<MemoryMedium>,
+    number: u32,
+    line: &BenchLine,
+) -> Result<LineAnswer, Memory>
+    requires number { 1 ≤ number }
+    requires target { line.now.target < length row.old }
+    requires ready { IsReady number row.old }
+    ensures step { IfOk result (λ came. IsStep number row.old line.now row.new came) }
+    ensures ready { OnOk result (IsReady (number + 1) row.new) }
+    ensures count { OnOk result (length row.new ≡ length row.old) }
+{
+    let asker = Asker {
+        number,
+        stamp: newest_stamp(row.as_slice()),
+    };
+    act(alloc, row, asker, line)
+}
+
+/// Writes what the line with a number came to.
+fn push_line(text: &mut Bytes, number: u32, came: &LineAnswer) -> Result<(), Memory>
+    ensures { OnOk result ((told : List ℕ) × ((told_text came.now ≡ Some told) × (text.new ≡ text.old ++ numbered number told))) }
+{
+    push_number(text, u64::from(number))?;
+    text.push(b' ')?;
+    push_told(text, came)?;
+    text.push(b'\n')
+}
+
 /// Does the line with a number, and writes its line of text.
 fn serve(
     alloc: Global,
@@ -82,16 +118,12 @@ fn serve(
     requires number { 1 ≤ number }
     requires target { line.now.target < length row.old }
     requires ready { IsReady number row.old }
-    ensures { OnOk result (IsReady (number + 1) row.new × ((told : List ℕ) × (IsStep number row.old line.now row.new told × (text.new ≡ text.old ++ numbered number told)))) }
+    ensures ready { OnOk result (IsReady (number + 1) row.new) }
+    ensures count { OnOk result (length row.new ≡ length row.old) }
+    ensures told { OnOk result ((told : List ℕ) × (IsToldStep number row.old line.now row.new told × (text.new ≡ text.old ++ numbered number told))) }
 {
-    push_number(text, u64::from(number))?;
-    text.push(b' ')?;
-    let asker = Asker {
-        number,
-        stamp: newest_stamp(row.as_slice()),
-    };
-    act(alloc, row, text, asker, line)?;
-    text.push(b'\n')
+    let came = answer_line(alloc, row, number, line)?;
+    push_line(text, number, &came)
 }
 
 /// Does the lines in their order. The text has a line for each.

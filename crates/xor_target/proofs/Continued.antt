@@ -96,12 +96,12 @@ same-gathering owner ws w v g h found has found' has' =
     some-same g h (sym has ∙ ap (λ (x : Waiting). x.gathering) same ∙ has')
 
 -- what is gathered is enough for its command
-pub continued-possible : (disk : DiskState) (g : GatheringState) (bytes : List ℕ) (seen : ℕ) → IsUnderWay disk.block disk.rows g → length bytes ≡ size g.gather → IsHeldThere disk g →
-    IsPossible disk (done_order g bytes seen) g.admitted.command
-continued-possible disk g bytes seen u long there =
+pub continued-possible : (disk : DiskState) (g : GatheringState) (made : List At) (bytes : List ℕ) (seen : ℕ) → IsUnderWay disk.block disk.rows g → length bytes ≡ size g.gather → IsHeldThere disk g →
+    IsPossible disk (done_order g made bytes seen) g.admitted.command
+continued-possible disk g made bytes seen u long there =
     let n = count_of g.admitted.command * disk.block in
     let same : length bytes ≡ n = long ∙ under-way-size disk.block disk.rows g u in
-    gatherer-possible disk (done_order g bytes seen) g.admitted.command u.gathers u.some u.within u.fits (done-length g bytes seen n u.summed (omega (arith, same)) u.sized) there.free there.room
+    gatherer-possible disk (done_order g made bytes seen) g.admitted.command u.gathers u.some u.within u.fits (done-length g made bytes seen n u.summed (omega (arith, same)) u.sized) there.free there.room
 
 -- ---- what an order that gathers leaves
 
@@ -126,8 +126,8 @@ gathered-target never_fails t order command answer after i sound gathers some co
     let n = count_of command * t.block in
     let sum : length g.gather.sum ≡ n = ap (λ (x : Gathering). length x.sum) first.gather ∙ length-replicate n 0 in
     let extra : length g.order.bytes ≤ n = subst (λ (b : List ℕ). length b ≤ n) (sym (ap (λ (o : Order). o.bytes) first.of_order)) sized in
-    acted-target never_fails t (done_order g [] order.stamp) command answer after i sound
-    (done-length g [] order.stamp n sum (omega arith) extra ∙ sym (gatherer-due t.block command gathers))
+    acted-target never_fails t (done_order g [] [] order.stamp) command answer after i sound
+    (done-length g [] [] order.stamp n sum (omega arith) extra ∙ sym (gatherer-due t.block command gathers))
     (λ taken. absurd (not-taken command gathers taken)) finds few acted
 gathered-target never_fails t order command answer after i sound gathers some counted within fits sized finds few (Begins g source first asks says waits) =
     subst (λ (x : TargetState). IsTarget x) (sym waits)
@@ -178,10 +178,10 @@ continued-by never_fails t owner w g bytes made seen answer after i sound waits 
     let n = count_of command * t.block in
     let u = way.1 in
     let size : length bytes ≡ n = long ∙ under-way-size t.block t.rows g u in
-    acted-target never_fails (no_longer t owner) (done_order g bytes seen) command done after
+    acted-target never_fails (no_longer t owner) (done_order g (w.made ++ made) bytes seen) command done after
     (waiting-target t (without_owner owner t.waiting) i (aside-left t.block t.buffer t.held (λ (x : Waiting). not (x.owner == owner)) t.waiting i.aside)
     (all-filtered (λ (x : Waiting). IsUnderWayIf t.block t.rows x.owner x.gathering) (λ (x : Waiting). not (x.owner == owner)) t.waiting i.gathers))
-    sound (done-length g bytes seen n u.summed (omega (arith, size)) u.sized ∙ sym (gatherer-due t.block command u.gathers))
+    sound (done-length g (w.made ++ made) bytes seen n u.summed (omega (arith, size)) u.sized ∙ sym (gatherer-due t.block command u.gathers))
     (λ taken. absurd (not-taken command u.gathers taken)) (aside-found t owner w g i.aside waits gathers)
     (few-named after.past (w.made ++ made) done (subst (λ (a : Answer). IsFewWhereGone after.past a) says few)) acted
 

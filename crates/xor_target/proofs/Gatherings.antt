@@ -8,6 +8,7 @@ use Rattle.sbc_cdbs.specs.Kinds.{is_kept}
 use Rattle.xor_buffers.specs.Held.{overlap_of, held_blocks}
 use Rattle.sbc_cdbs.specs.declared.commands.Command.{Command}
 use Rattle.sbc_cdbs.specs.declared.commands.Command.TheVariants.{Read, Write, XdWrite, XpWrite, XdRead, XdWriteRead, ModeSelect, ModeSense, XdWriteExtended, Rebuild, Regenerate}
+use Rattle.array_journal.specs.declared.at.At.{At}
 use Rattle.xor_params.specs.declared.sources.Descriptor.{Descriptor}
 use Rattle.xor_params.specs.ParameterLists.{announced_sources, announced_room, data_due}
 use Rattle.xor_params.specs.Contents.{descriptors_in, source_in, sources_in, intermediate_in}
@@ -87,9 +88,9 @@ shorter-length a [] h = ap length (xor-nil_r a)
 shorter-length [] (y ∷ b) h = absurd (omega arith)
 shorter-length (x ∷ a) (y ∷ b) h = ap suc (shorter-length a b (omega arith))
 
-pub done-length : (g : GatheringState) (last : List ℕ) (stamp n : ℕ) → length g.gather.sum ≡ n → length last ≤ n → length g.order.bytes ≤ n →
-    length (done_order g last stamp).bytes ≡ n
-done-length g last stamp n sum shorter extra =
+pub done-length : (g : GatheringState) (made : List At) (last : List ℕ) (stamp n : ℕ) → length g.gather.sum ≡ n → length last ≤ n → length g.order.bytes ≤ n →
+    length (done_order g made last stamp).bytes ≡ n
+done-length g made last stamp n sum shorter extra =
     let one : length (xor g.gather.sum last) ≡ length g.gather.sum = shorter-length g.gather.sum last (omega (arith, sum, shorter)) in
     shorter-length (xor g.gather.sum last) g.order.bytes (omega (arith, one, sum, extra)) ∙ one ∙ sum
 
@@ -205,13 +206,13 @@ pub alone-possible : (disk : DiskState) (order : Order) (command : Command) (g :
     row_of command + count_of command ≤ disk.rows → row_of command + count_of command ≤ 2 ^ 32 → length (intermediate_in order.bytes) ≤ count_of command * disk.block →
     (is_kept command ≡ true → overlap_of disk.block (row_of command) (count_of command) disk.buffer.list ≡ None) →
     (is_kept command ≡ true → nat_lt (disk.buffer.capacity - held_blocks disk.block disk.buffer.list) (count_of command) ≡ false) →
-    IsPossible disk (done_order g [] stamp) g.admitted.command
+    IsPossible disk (done_order g [] [] stamp) g.admitted.command
 alone-possible disk order command g stamp first gathers some within fits sized free room =
     let n = count_of command * disk.block in
     let sum : length g.gather.sum ≡ n = ap (λ (x : Gathering). length x.sum) first.gather ∙ length-replicate n 0 in
     let extra : length g.order.bytes ≤ n = subst (λ (b : List ℕ). length b ≤ n) (sym (ap (λ (o : Order). o.bytes) first.of_order)) sized in
-    subst (λ (c : Command). IsPossible disk (done_order g [] stamp) c) (sym first.of_command)
-    (gatherer-possible disk (done_order g [] stamp) command gathers some within fits (done-length g [] stamp n sum (omega arith) extra) free room)
+    subst (λ (c : Command). IsPossible disk (done_order g [] [] stamp) c) (sym first.of_command)
+    (gatherer-possible disk (done_order g [] [] stamp) command gathers some within fits (done-length g [] [] stamp n sum (omega arith) extra) free room)
 
 -- there are no sources where there is no first
 pub no-sources : (sources : List Descriptor) → slice_get sources 0 ≡ None → sources ≡ []

@@ -127,8 +127,8 @@ acted never_fails t order command said now a =
 gathered : (never_fails : Bool) (t : TargetState) (order : Order) (command : Command) (said : Answer) (now : TargetState) → early_answer t order ≡ None → command_in order.cdb ≡ command →
     IsGatherer command → IsGathered never_fails t order command said now → Left t order said now
 gathered never_fails t order command said now early is gathers (Alone g first none does) =
-    let p = acted-place never_fails t (done_order g [] order.stamp) command said now does in
-    Ends (acted-ends never_fails t (done_order g [] order.stamp) command said now does) p.1 p.0
+    let p = acted-place never_fails t (done_order g [] [] order.stamp) command said now does in
+    Ends (acted-ends never_fails t (done_order g [] [] order.stamp) command said now does) p.1 p.0
 gathered never_fails t order command said now early is gathers (Begins g source first asks says after) =
     Reads g source command early is gathers first asks says after
 
@@ -352,5 +352,5 @@ resumed-by never_fails t owner peer seen answer now goes (Continues bytes made o
     by (AsksMore source asks says after) =
         AsksNext c.waiting c.gathering source bytes (c.waiting.made ++ made) (newest_stamp t.past seen) c.waits c.gathers asks says after (λ e. absurd cc)
     by (Finishes done none acts says) =
-        finished never_fails t owner peer (done_order c.gathering bytes seen) c.gathering.admitted.command (c.waiting.made ++ made) done answer now acts says
+        finished never_fails t owner peer (done_order c.gathering (c.waiting.made ++ made) bytes seen) c.gathering.admitted.command (c.waiting.made ++ made) done answer now acts says
 resumed-by never_fails t owner peer seen answer now goes (LacksMemory bytes made on is good says same) = Stays says same (λ e. absurd cc)

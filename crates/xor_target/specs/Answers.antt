@@ -158,7 +158,7 @@ pub data IsSent (never_fails : Bool) (t : TargetState) (order : Order) (command 
 
 -- A REBUILD or REGENERATE without sources is done at once; one with sources waits for what it gathers, and asks the first of them.
 pub data IsGathered (never_fails : Bool) (t : TargetState) (order : Order) (command : Command) (answer : Answer) (after : TargetState) : Type 0 where
-  Alone : (g : GatheringState) → IsFirst t.block order command g → g.sources ≡ [] → IsActed never_fails t (done_order g [] order.stamp) command answer after →
+  Alone : (g : GatheringState) → IsFirst t.block order command g → g.sources ≡ [] → IsActed never_fails t (done_order g [] [] order.stamp) command answer after →
       IsGathered never_fails t order command answer after
   Begins : (g : GatheringState) (source : Descriptor) → IsFirst t.block order command g → slice_get g.sources 0 ≡ Some source →
       answer ≡ Peer (read_request t.number (newest_stamp t.past order.stamp) g source) [] →

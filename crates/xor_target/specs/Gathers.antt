@@ -1,9 +1,10 @@
 -- What REBUILD and REGENERATE gather from other targets (SBC).
-use Rattle.std.specs.Prelude.{◌≡◌, ◌<◌, ◌≤◌, ◌+◌, ◌*◌, ◌^◌, ℕ, false, List, [], length, Option, Some, None}
+use Rattle.std.specs.Prelude.{◌≡◌, ◌<◌, ◌≤◌, ◌+◌, ◌*◌, ◌^◌, ℕ, false, List, [], ◌++◌, length, Option, Some, None}
 use Rattle.blocks_core.specs.Xor.{xor}
 use Rattle.sbc_cdbs.specs.Cdbs.{cdb_bytes, spelling}
 use Rattle.sbc_cdbs.specs.declared.commands.Command.{Command}
 use Rattle.sbc_cdbs.specs.declared.commands.Command.TheVariants as sbc
+use Rattle.array_journal.specs.declared.at.At.{At}
 use Rattle.xor_params.specs.declared.sources.Descriptor.{Descriptor}
 use Rattle.xor_params.specs.Contents.{sources_in, intermediate_in}
 use Rattle.regen_rebuild.specs.Gatherings.{Gathering, Awaits, accepted_one, fresh}
@@ -40,10 +41,10 @@ pub record IsFirst (block : ℕ) (order : Order) (command : Command) (g : Gather
 abbrev pub accepted : GatheringState → List ℕ → GatheringState
 accepted g bytes = record g { answered = g.answered + 1; gather = accepted_one g.gather g.answered bytes }
 
--- the order with what was gathered: the blocks of all sources, of which these are those of the last one, exclusive-or the
--- intermediate data
-abbrev pub done_order : GatheringState → List ℕ → ℕ → Order
-done_order g last stamp = record g.order { stamp = stamp; bytes = xor (xor g.gather.sum last) g.order.bytes }
+-- The order with what was gathered: the blocks of all sources, of which these are those of the last one, exclusive-or the
+-- intermediate data. Its entry rests on those that the sources were read by, too.
+abbrev pub done_order : GatheringState → List At → List ℕ → ℕ → Order
+done_order g made last stamp = record g.order { names = g.order.names ++ made; stamp = stamp; bytes = xor (xor g.gather.sum last) g.order.bytes }
 
 -- The request that a source's blocks be read: a READ of as many blocks as the command has.
 abbrev pub read_request : ℕ → ℕ → GatheringState → Descriptor → PeerRequest

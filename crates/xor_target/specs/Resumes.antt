@@ -75,7 +75,7 @@ pub data IsContinued (never_fails : Bool) (t : TargetState) (owner : ℕ) (w : W
       answer ≡ Peer (read_request t.number (newest_stamp t.past seen) g source) (w.made ++ made) →
       after ≡ record t { waiting = with_source owner (w.made ++ made) bytes t.waiting } → IsContinued never_fails t owner w g bytes made seen answer after
   Finishes : (done : Answer) → slice_get g.sources (g.answered + 1) ≡ None →
-      IsActed never_fails (no_longer t owner) (done_order g bytes seen) g.admitted.command done after → answer ≡ with_names (w.made ++ made) done →
+      IsActed never_fails (no_longer t owner) (done_order g (w.made ++ made) bytes seen) g.admitted.command done after → answer ≡ with_names (w.made ++ made) done →
       IsContinued never_fails t owner w g bytes made seen answer after
 
 -- the same of the owner's gathering, which is under way

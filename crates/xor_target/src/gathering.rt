@@ -9,6 +9,7 @@ ghost use Rattle.xor_target.specs.Waits.{sets_aside, row_aside, count_aside};
 ghost use Rattle.xor_target.specs.Gathers.{IsFirst, accepted, done_order, read_request};
 
 use crate::admission::Admitted;
+use crate::names::joined;
 use crate::order::{Order, PeerRequest};
 use array_journal::Names;
 use blocks_core::{Bytes, Memory, XorSum};
@@ -167,9 +168,16 @@ impl Gathering {
     }
 
     /// The order with the exclusive-or of all: the sources that have answered, the blocks of the last one, and
-    /// the intermediate data.
-    pub fn done_order(&self, alloc: Global, last: &[u8], stamp: u64) -> Result<Order, Memory>
-        ensures { IfOk result (λ order. order ≡ done_order self.now last.now stamp) }
+    /// the intermediate data. Behind its own names it has those of the entries that the sources were read by:
+    /// whoever judges the journal asks where the blocks come from.
+    pub fn done_order(
+        &self,
+        alloc: Global,
+        made: &Names,
+        last: &[u8],
+        stamp: u64,
+    ) -> Result<Order, Memory>
+        ensures { IfOk result (λ order. order ≡ done_order self.now made.now last.now stamp) }
     {
         let mut sum = XorSum::new(alloc, self.gather.sum().len())?;
         sum.add(self.gather.sum())?;
@@ -178,7 +186,7 @@ impl Gathering {
         Ok(Order {
             owner: self.order.owner,
             opened: self.order.opened,
-            names: self.order.names.copy(alloc)?,
+            names: joined(alloc, &self.order.names, made)?,
             stamp,
             cdb: self.order.cdb.copy(alloc)?,
             bytes: sum.into_bytes(),

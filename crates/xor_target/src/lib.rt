@@ -12,6 +12,7 @@ mod limits;
 mod log;
 mod logged_disk;
 mod logical_unit;
+mod names;
 mod order;
 mod rig;
 mod target;

@@ -7,6 +7,7 @@ ghost use Rattle.xor_target.specs.Waits.{waiting_of, without_owner, without_gath
 
 use crate::answer::Answer;
 use crate::gathering::Gathering;
+use crate::names::joined;
 use array_journal::Names;
 use blocks_core::Memory;
 use std::alloc::Global;
@@ -26,11 +27,7 @@ impl Waiting {
     pub fn made_with(&self, alloc: Global, made: &Names) -> Result<Names, Memory>
         ensures { IfOk result (λ names. names ≡ self.now.made ++ made.now) }
     {
-        let mut all = self.made.copy(alloc)?;
-        for name in made.as_slice() {
-            all.push(*name)?;
-        }
-        Ok(all)
+        joined(alloc, &self.made, made)
     }
 
     /// How many blocks it sets aside.

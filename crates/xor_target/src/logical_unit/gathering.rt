@@ -51,12 +51,12 @@ impl<M: Medium + Drop> LogicalUnit<M> {
         stamp: u64,
     ) -> Result<Answer, Memory>
         requires sent { cdb_bytes gathering.now.admitted.cdb ≡ gathering.now.order.cdb }
-        requires possible { IsPossible self.old.logged.disk (done_order gathering.now [] stamp) gathering.now.admitted.command }
-        ensures acted { IfOk result (λ answer. (targets : ℕ) (first page : XorPage) → IsActed M.NEVER_FAILS (state_of targets first page self.old.waiting.list self.old.logged.disk self.old.logged.log) (done_order gathering.now [] stamp) gathering.now.admitted.command answer (state_of targets first page self.new.waiting.list self.new.logged.disk self.new.logged.log)) }
+        requires possible { IsPossible self.old.logged.disk (done_order gathering.now [] [] stamp) gathering.now.admitted.command }
+        ensures acted { IfOk result (λ answer. (targets : ℕ) (first page : XorPage) → IsActed M.NEVER_FAILS (state_of targets first page self.old.waiting.list self.old.logged.disk self.old.logged.log) (done_order gathering.now [] [] stamp) gathering.now.admitted.command answer (state_of targets first page self.new.waiting.list self.new.logged.disk self.new.logged.log)) }
         ensures few { IfOk result (IsFewWhereGone self.new.logged.log.past) }
         ensures memory { OnErr result ((targets : ℕ) (first page : XorPage) → state_of targets first page self.new.waiting.list self.new.logged.disk self.new.logged.log ≡ state_of targets first page self.old.waiting.list self.old.logged.disk self.old.logged.log) }
     {
-        let order = gathering.done_order(alloc, &[], stamp)?;
+        let order = gathering.done_order(alloc, &Names::new(alloc), &[], stamp)?;
         self.act(alloc, &order, &gathering.admitted())
     }
 
@@ -110,7 +110,7 @@ impl<M: Medium + Drop> LogicalUnit<M> {
         let made = waiting.made_with(alloc, made)?;
         let Some(source) = gathering.next() else {
             let admitted = gathering.admitted();
-            let order = gathering.done_order(alloc, bytes, seen)?;
+            let order = gathering.done_order(alloc, &made, bytes, seen)?;
             return self.finish(alloc, order, &admitted, made);
         };
         let log = &self.logged.log;

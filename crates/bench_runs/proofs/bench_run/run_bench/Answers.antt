@@ -5,8 +5,7 @@ use Rattle.array_journal.specs.Calm.{IsStamped}
 use Rattle.host_scripts.specs.declared.bench.BenchLine.{BenchLine}
 use Rattle.xor_target.specs.State.{TargetState}
 use Rattle.bench_runs.specs.BenchRuns.{AreDone}
-use Rattle.bench_runs.specs.Ready.{IsReady}
-use Rattle.bench_runs.proofs.BenchRows.{targets-there, first-ready}
+use Rattle.bench_runs.proofs.BenchRows.{targets-there}
 use Rattle.bench_runs.proofs.bench_run.run_bench.Goals as goal
 
 pub serve_all-requires-clause-targets : goal.serve_all-requires-clause-targets
@@ -14,10 +13,10 @@ serve_all-requires-clause-targets c =
     let bench = c.args.bench.now in
     let There : List TargetState → List BenchLine → Type 0 = λ row lines. AllByRecursion (λ (l : BenchLine). l.target < length row) lines in
     subst (There c.in_ok-row.row) (sym c.as_slice.ensures)
-    (subst (λ (row : List TargetState). There row bench.lines) (sym c.in_ok-row.ensures) (targets-there bench c.requires.ranged.lines))
+    (subst (λ (row : List TargetState). There row bench.lines) (sym c.in_ok-row.ensures.value) (targets-there bench c.requires.ranged.lines))
 
 pub serve_all-requires-clause-ready : goal.serve_all-requires-clause-ready
-serve_all-requires-clause-ready c = subst (IsReady 1) (sym c.in_ok-row.ensures) (first-ready c.args.bench.now)
+serve_all-requires-clause-ready c = c.in_ok-row.ensures.ready
 
 pub returns : goal.returns
 returns c =
@@ -28,7 +27,7 @@ returns c =
     let Lines : List BenchLine → Type 0 = λ lines. AreDone 1 c.in_ok-row.row lines row text in
     record {
       after = row;
-      done = subst Starts c.in_ok-row.ensures (subst Lines c.as_slice.ensures c.in_ok-text.ensures.done);
+      done = subst Starts c.in_ok-row.ensures.value (subst Lines c.as_slice.ensures c.in_ok-text.ensures.done);
       merged = c.in_ok-journal.ensures;
       stamped = subst (λ (journal : List Entry). IsStamped (reverse journal)) (sym c.in_ok-journal.ensures) c.in_ok-text.ensures.ready.stamped;
     }

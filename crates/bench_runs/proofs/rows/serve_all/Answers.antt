@@ -1,22 +1,20 @@
 use Rattle.std.proofs.Common.{◌<◌, ◌≤◌, ◌+◌, length, sym, subst, ◌∙◌, arith}
 use Rattle.bench_runs.proofs.Done.{GoesOn, line-done, all-done}
-use Rattle.bench_runs.proofs.Many.{line-many}
 use Rattle.bench_runs.proofs.rows.serve_all.Goals as goal
 
 pub loop-place-preserved : goal.loop-place-preserved
 loop-place-preserved c =
     let start = c.args.row.now in
     let line = c.index-lines-place.result in
-    let told = c.in_ok-serve.ensures.1.0 in
-    let step = c.in_ok-serve.ensures.1.1.0 in
+    let said = c.in_ok-serve.ensures.told in
     let place = c.loop-place.place in
     let below : place < length c.args.lines.now = omega arith in
     let goes : GoesOn start c.args.lines.now (place + 1) c.serve.new.row c.serve.new.text =
-    subst (GoesOn start c.args.lines.now (place + 1) c.serve.new.row) (sym c.in_ok-serve.ensures.1.1.1)
-    (line-done start c.args.lines.now place line c.loop-place.row c.serve.new.row c.loop-place.text told below c.index-lines-place.is c.loop-place.invariant.goes_on step) in
+    subst (GoesOn start c.args.lines.now (place + 1) c.serve.new.row) (sym said.1.1)
+    (line-done start c.args.lines.now place line c.loop-place.row c.serve.new.row c.loop-place.text said.0 below c.index-lines-place.is c.loop-place.invariant.goes_on said.1.0) in
     record {
-      count = line-many (place + 1) line.target c.loop-place.row line.action c.serve.new.row told step ∙ c.loop-place.invariant.count;
-      ready = c.in_ok-serve.ensures.0;
+      count = c.in_ok-serve.ensures.count ∙ c.loop-place.invariant.count;
+      ready = c.in_ok-serve.ensures.ready;
       goes_on = goes;
     }
 

@@ -1,4 +1,4 @@
-use Rattle.std.proofs.Common.{◌≡◌, ap, ◌∙◌, List, ℕ, length}
+use Rattle.std.proofs.Common.{◌≡◌, ap, ◌∙◌, ◌++◌, List, ℕ, length}
 use Rattle.blocks_core.specs.Xor.{xor, zeros}
 use Rattle.array_journal.specs.declared.at.At.{At}
 use Rattle.xor_target.specs.Gathers.{GatheringState, done_order}
@@ -18,7 +18,8 @@ returns c =
     ∙ ap (λ (z : List ℕ). xor (xor (xor (zeros (length z)) c.sum-2.result.now) last) inside.order.bytes) c.sum.ensures.sum
     ∙ ap (λ (z : List ℕ). xor (xor (xor (zeros (length sum)) z) last) inside.order.bytes) c.sum-2.ensures.sum
     ∙ made-sum sum last inside.order.bytes in
-    ap (λ (names : List At). record inside.order { stamp = c.args.stamp; names = names; cdb = c.in_ok-copy-2.field-0; bytes = c.into_bytes.result }) c.in_ok-copy.ensures
-    ∙ ap (λ (cdb : List ℕ). record inside.order { stamp = c.args.stamp; cdb = cdb; bytes = c.into_bytes.result }) c.in_ok-copy-2.ensures
-    ∙ ap (λ (b : List ℕ). record inside.order { stamp = c.args.stamp; bytes = b }) bytes
-    ∙ ap (λ (g : GatheringState). done_order g last c.args.stamp) c.self.view_is
+    let made = c.args.made.now in
+    ap (λ (names : List At). record inside.order { stamp = c.args.stamp; names = names; cdb = c.in_ok-copy.field-0; bytes = c.into_bytes.result }) c.in_ok-joined.ensures
+    ∙ ap (λ (cdb : List ℕ). record inside.order { names = inside.order.names ++ made; stamp = c.args.stamp; cdb = cdb; bytes = c.into_bytes.result }) c.in_ok-copy.ensures
+    ∙ ap (λ (b : List ℕ). record inside.order { names = inside.order.names ++ made; stamp = c.args.stamp; bytes = b }) bytes
+    ∙ ap (λ (g : GatheringState). done_order g made last c.args.stamp) c.self.view_is

@@ -57,7 +57,7 @@ returns-in-None-clause-gathered g c =
     let new = c.do_alone.new.self in
     let first = subst (λ (b : ℕ). IsFirst b order command gathering) c.block.ensures.value c.in_ok-gathering.ensures in
     let acts : Command → Answer → Type 0 =
-    λ does a. (targets : ℕ) (one page : XorPage) → IsActed never (state_of targets one page self.waiting.list self.logged.disk self.logged.log) (done_order gathering [] order.stamp) does a
+    λ does a. (targets : ℕ) (one page : XorPage) → IsActed never (state_of targets one page self.waiting.list self.logged.disk self.logged.log) (done_order gathering [] [] order.stamp) does a
     (state_of targets one page new.waiting.list new.logged.disk new.logged.log) in
     ok-so c.do_alone.result (λ a. acts gathering.admitted.command a)
     (λ (a : Answer). (targets : ℕ) (one page : XorPage) → IsGathered never (state_of targets one page self.waiting.list self.logged.disk self.logged.log) order command a

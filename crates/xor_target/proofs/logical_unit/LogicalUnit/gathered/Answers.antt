@@ -31,7 +31,7 @@ finish-requires-clause-possible g c =
     let long = subst (λ (x : GatheringState). length bytes ≡ size x.gather) same c.requires.size in
     let there = subst (λ (x : GatheringState). IsHeldThere disk x) same (record { free = c.requires.free; room = c.requires.room }) in
     subst (λ (x : Admitted). IsPossible disk c.in_ok-order.order x.command) (sym c.admitted-admitted.ensures)
-    (subst (λ (o : Order). IsPossible disk o gathering.admitted.command) (sym c.in_ok-order.ensures) (continued-possible disk gathering bytes c.args.seen under_way long there))
+    (subst (λ (o : Order). IsPossible disk o gathering.admitted.command) (sym c.in_ok-order.ensures) (continued-possible disk gathering c.in_ok-made.made bytes c.args.seen under_way long there))
 
 pub returns-in_default-next-clause-continued : goal.returns-in_default-next-clause-continued
 returns-in_default-next-clause-continued g c =
@@ -44,7 +44,7 @@ returns-in_default-next-clause-continued g c =
     let new = c.finish.new.self in
     let waiting = c.unwrap-waiting.result.now in
     let gathering = c.in-Some.gathering in
-    let order = done_order gathering bytes seen in
+    let order = done_order gathering (waiting.made ++ made) bytes seen in
     let found = rw c.unwrap-waiting.ensures at c.of.ensures in
     let same : c.requires.gathering ≡ gathering =
     same-gathering owner self.waiting.list c.requires.waiting waiting c.requires.gathering gathering c.requires.waits c.requires.gathers found c.in-Some.is in
@@ -59,7 +59,8 @@ returns-in_default-next-clause-continued g c =
     (λ a h targets first page.
     let t = state_of targets first page self.waiting.list self.logged.disk self.logged.log in
     let after = state_of targets first page new.waiting.list new.logged.disk new.logged.log in
-    let ends = subst (λ (o : Order). finishes o gathering.admitted (waiting.made ++ made) a) c.in_ok-order.ensures
+    let ends = subst (λ (o : Order). finishes o gathering.admitted (waiting.made ++ made) a)
+    (c.in_ok-order.ensures ∙ ap (λ (names : List At). done_order gathering names bytes seen) c.in_ok-made.ensures)
     (subst (λ (x : Admitted). finishes c.in_ok-order.order x (waiting.made ++ made) a) c.admitted-admitted.ensures
     (subst (λ (names : List At). finishes c.in_ok-order.order c.admitted-admitted.result names a) c.in_ok-made.ensures h)) targets first page in
     let acted = subst (λ (o : ℕ). IsActed never (no_longer t o) order gathering.admitted.command ends.done after) own ends.acted in
