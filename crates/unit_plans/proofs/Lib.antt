@@ -1,0 +1,9 @@
+mod Knowing
+mod Following
+mod Befallen
+mod Moved
+mod Deltas
+mod Answered
+mod Resumed
+mod OwnRows
+mod Gathered
