@@ -16,6 +16,8 @@ pub enum Program {
     Array,
     /// `xorcheck`, which calls `check`.
     Checker,
+    /// `xortarget`, which calls `serve`.
+    Target,
 }
 
 /// How many bytes a sink has room for, and which of its calls fail, from 1.
@@ -33,6 +35,8 @@ pub struct TopCall {
     pub input: Bytes,
     /// Which calls of the source fail, from 1.
     pub source_fails: Vec<u64>,
+    /// How many bytes each read of the source gives at most.
+    pub piece: usize,
     pub out: Outlet,
     pub notes: Outlet,
 }
@@ -44,6 +48,7 @@ pub struct Draft {
     words: Vec<String>,
     input: Bytes,
     source_fails: Vec<u64>,
+    piece: usize,
     out: Outlet,
     notes: Outlet,
 }
@@ -61,6 +66,7 @@ fn program_of(name: &[u8]) -> Result<Program, Wrong> {
     match name {
         b"xorarray" => Ok(Program::Array),
         b"xorcheck" => Ok(Program::Checker),
+        b"xortarget" => Ok(Program::Target),
         _ => Err(Wrong::Unread(Expected::Program)),
     }
 }
@@ -90,6 +96,7 @@ impl Draft {
             words: Vec::new(alloc),
             input: Bytes::new(alloc),
             source_fails: Vec::new(alloc),
+            piece: usize::MAX,
             out: Outlet::new(alloc),
             notes: Outlet::new(alloc),
         }
@@ -132,6 +139,11 @@ impl Draft {
         Ok(())
     }
 
+    fn take_piece(&mut self, number: &[u8]) -> Result<(), Wrong> {
+        self.piece = number_of(number)? as usize;
+        Ok(())
+    }
+
     /// Takes one more line of a case. Those that say what varies were taken already.
     pub fn take(&mut self, alloc: Global, blocks: &NamedTexts, line: &[u8]) -> Result<(), Wrong> {
         let (keyword, rest) = cut_at(line, b' ');
@@ -139,6 +151,7 @@ impl Draft {
             b"run" => self.take_run(alloc, rest),
             b"fail" => self.take_fails(alloc, rest),
             b"room" => self.take_room(rest),
+            b"piece" => self.take_piece(rest),
             b"each" | b"from" => Ok(()),
             _ => take_line(alloc, blocks, &mut self.input, line),
         }
@@ -151,6 +164,7 @@ impl Draft {
             words,
             input,
             source_fails,
+            piece,
             out,
             notes,
         } = self;
@@ -160,6 +174,7 @@ impl Draft {
                 words,
                 input,
                 source_fails,
+                piece,
                 out,
                 notes,
             }),

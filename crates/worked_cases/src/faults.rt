@@ -89,7 +89,7 @@ fn words_of(expected: Expected) -> &'static [u8]
         Expected::Block => b"the name of a block above",
         Expected::Place => b"a place in the text above",
         Expected::Length => b"a text of at most 67108864 bytes",
-        Expected::Program => b"`xorarray` or `xorcheck`",
+        Expected::Program => b"`xorarray`, `xorcheck` or `xortarget`",
         Expected::Text => b"words in UTF-8",
         Expected::Medium => b"`source`, `out` or `notes`",
         Expected::Call => b"a case with one line `run`",

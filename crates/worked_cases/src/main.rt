@@ -7,6 +7,7 @@ mod edits;
 mod faults;
 mod lines;
 mod lists;
+mod piece_source;
 mod telling;
 mod texts;
 mod top;

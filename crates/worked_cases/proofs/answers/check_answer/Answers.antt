@@ -1,4 +1,4 @@
-use Rattle.std.proofs.Common.{◌∙◌, List, Some, String, subst}
+use Rattle.std.proofs.Common.{List, Some, String, subst}
 use Rattle.std.specs.declared.alloc.Global.{Global}
 use Rattle.program_status.specs.Words.{texts}
 use Rattle.worked_cases.specs.Answers.{CheckSays}
@@ -8,7 +8,7 @@ use Rattle.worked_cases.proofs.answers.check_answer.Goals as goal
 pub returns : goal.returns
 returns c =
     let Says : List (String Global) → Type 0 = λ words.
-    CheckSays (texts words) (Some c.new-source.result.unread) (Some c.in_ok-out.out.sink.bytes) (Some c.check-status.new.out.sink.bytes)
+    CheckSays (texts words) (Some c.source_of-source.result.source.unread) (Some c.in_ok-out.out.sink.bytes) (Some c.check-status.new.out.sink.bytes)
     (Some c.in_ok-notes.notes.sink.bytes) (Some c.check-status.new.notes.sink.bytes) c.check-status.result in
     let says : Says c.as_slice.result.now = record {
       accepted = c.check-status.ensures.accepted;
@@ -20,5 +20,5 @@ returns c =
       unwritten = c.check-status.ensures.unwritten;
       noted = c.check-status.ensures.noted;
     } in
-    check-told _ c.args.call.input _ _ _ _ _ _ _ (c.new-source.ensures.bytes ∙ c.into_vec.ensures) c.in_ok-out.ensures c.in_ok-notes.ensures
+    check-told _ c.args.call.input _ _ _ _ _ _ _ c.source_of-source.ensures c.in_ok-out.ensures c.in_ok-notes.ensures
     c.answer_of.ensures.status c.answer_of.ensures.out c.answer_of.ensures.notes (subst Says c.as_slice.ensures.value says)

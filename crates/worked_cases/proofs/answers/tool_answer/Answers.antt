@@ -1,4 +1,4 @@
-use Rattle.std.proofs.Common.{◌∙◌, List, Some, String, subst}
+use Rattle.std.proofs.Common.{List, Some, String, subst}
 use Rattle.std.specs.declared.alloc.Global.{Global}
 use Rattle.program_status.specs.Words.{texts}
 use Rattle.worked_cases.specs.Answers.{ToolSays}
@@ -8,7 +8,7 @@ use Rattle.worked_cases.proofs.answers.tool_answer.Goals as goal
 pub returns : goal.returns
 returns c =
     let Says : List (String Global) → Type 0 = λ words.
-    ToolSays (texts words) (Some c.new-source.result.unread) (Some c.in_ok-out.out.sink.bytes) (Some c.tool-outcome.new.out.sink.bytes)
+    ToolSays (texts words) (Some c.source_of-source.result.source.unread) (Some c.in_ok-out.out.sink.bytes) (Some c.tool-outcome.new.out.sink.bytes)
     (Some c.in_ok-notes.notes.sink.bytes) (Some c.tool-outcome.new.notes.sink.bytes) c.tool-outcome.result.status c.tool-outcome.result.journal in
     let says : Says c.as_slice.result.now = record {
       done = c.tool-outcome.ensures.done;
@@ -19,5 +19,5 @@ returns c =
       unwritten = c.tool-outcome.ensures.unwritten;
       noted = c.tool-outcome.ensures.noted;
     } in
-    tool-told _ c.args.call.input _ _ _ _ _ _ _ _ (c.new-source.ensures.bytes ∙ c.into_vec.ensures) c.in_ok-out.ensures c.in_ok-notes.ensures
+    tool-told _ c.args.call.input _ _ _ _ _ _ _ _ c.source_of-source.ensures c.in_ok-out.ensures c.in_ok-notes.ensures
     c.answer_of.ensures.status c.answer_of.ensures.out c.answer_of.ensures.notes (subst Says c.as_slice.ensures.value says)
