@@ -27,6 +27,13 @@ def cdb(code, lba, count):
     return f"{code:02x}00{lba:08x}00{count:04x}00"
 
 
+def gathers(code, lba, sources):
+    """A REBUILD (81h) or REGENERATE (82h) of a block, from this row of other targets."""
+    descriptors = "".join(f"{0:014x}{target:02x}{lba:016x}" for target in sources)
+    data = f"{len(sources):02x}00{16 * len(sources):04x}{descriptors}"
+    return f"{code:02x}00{lba:08x}{1:08x}{len(data) // 2:08x}0000 {data}"
+
+
 def reads(lines):
     """Each line reads a block of 4,096 bytes."""
     yield header(16, 4096, 256, 0)
@@ -71,12 +78,29 @@ def losses(lines):
         yield f"{line // 2 % 16} {'fresh' if line % 2 else 'lose'}\n"
 
 
+def rebuilds(lines):
+    """Each line makes a block anew from those of the 15 other targets."""
+    yield header(16, 16, 65536, 0)
+    for line in range(lines):
+        yield f"{line % 16} cdb {gathers(0x81, line, [target for target in range(16) if target != line % 16])}\n"
+
+
+def regenerates(lines):
+    """A block is gathered from two others, and taken at once."""
+    yield header(16, 16, 65536, 4)
+    for line in range(lines // 2):
+        target = line % 16
+        yield f"{target} cdb {gathers(0x82, line, [(target + 1) % 16, (target + 2) % 16])}\n{target} cdb {cdb(0x52, line, 1)} -\n"
+
+
 BENCHES = [
     ("reads of a block", reads, 5_000, 10_000),
     ("reads of 64 blocks", long_reads, 128, 256),
     ("writes of a small block", small_writes, 5_000, 10_000),
     ("deltas held and taken", deltas, 5_000, 10_000),
     ("many deltas at one target", many_deltas, 5_000, 10_000),
+    ("blocks of 15 sources", rebuilds, 5_000, 10_000),
+    ("blocks gathered and taken", regenerates, 5_000, 10_000),
     ("losses and fresh disks", losses, 5_000, 10_000),
 ]
 

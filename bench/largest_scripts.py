@@ -99,8 +99,8 @@ class Runs:
         self.status = 0
         self.notes = b""
         # The script is never held whole: what a process had before it began its program counts as its memory.
-        with open(path, "w", encoding="ascii") as file:
-            file.writelines(script)
+        with open(path, "wb") as file:
+            file.writelines(part if isinstance(part, bytes) else part.encode("ascii") for part in script)
 
     def run(self):
         """Runs the program once."""
