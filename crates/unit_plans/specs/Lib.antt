@@ -4,3 +4,12 @@ pub mod Orders
 pub mod Followers
 pub mod Answered
 pub mod Gathered
+pub mod Buses
+pub mod Conditions
+pub mod Effects
+pub mod ActLaws
+pub mod ServedOrders
+pub mod Steps
+pub mod Plans
+pub mod Follows
+pub mod PlanLaws
