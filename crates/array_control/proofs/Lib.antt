@@ -1,0 +1,6 @@
+mod Entries
+mod Progress
+mod Replies
+mod Apart
+mod HostCalls
+mod Passes
