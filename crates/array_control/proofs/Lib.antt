@@ -4,3 +4,9 @@ mod Replies
 mod Apart
 mod HostCalls
 mod Passes
+mod Following
+mod PieceWants
+mod CalmDecisions
+mod Asking
+mod Beginning
+mod Followed

@@ -6,3 +6,4 @@ pub mod ApartLaws
 pub mod Passes
 pub mod PassLaws
 pub mod HostCalls
+pub mod Arrays

@@ -1,7 +1,13 @@
-//! Calls of hosts over an array: how far each has come in what the array does, and the calls of one host, one after another.
+//! The array over a bus: calls of hosts, how far each has come in what the array does, and how their pieces are served.
 #![tactic(auto)]
 
+mod array;
+mod call_run;
 mod host_run;
 pub mod laws;
+mod serving;
 
+pub use array::Array;
+pub use call_run::CallRun;
 pub use host_run::{HostRun, NextCall};
+pub use serving::Advanced;
