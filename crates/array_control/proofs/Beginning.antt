@@ -1,6 +1,7 @@
 -- A piece is begun: what the book decides of it, and what the call has come to then.
 use Rattle.std.specs.Prelude.{◌≡◌, ◌≢◌, ◌≤◌, ◌<◌, ◌++◌, ◌⊎◌, ◌+◌, max, ℕ, Bool, true, List, [], ◌∷◌, Option, None}
 use Rattle.std.proofs.Common.{refl, ap, sym, ◌∙◌, subst, inl, inr}
+use Rattle.std.proofs.lemmas.Bool.{ne_eqb}
 use Rattle.std.proofs.lemmas.List.{append_cancel_right}
 use Rattle.stripe_layout.specs.declared.geometry.Geometry.{Geometry}
 use Rattle.stripe_layout.specs.declared.mode.Mode.{Mode}
@@ -43,7 +44,7 @@ use Rattle.unit_plans.proofs.GoesOn.{plans-go_on}
 use Rattle.unit_plans.proofs.PlansBegin.{plans-begin}
 use Rattle.array_control.specs.declared.call_run.CallRun.{CallRun}
 use Rattle.array_control.specs.declared.call_run.PieceRun.{PieceRun}
-use Rattle.array_control.specs.Arrays.{IsAskFor, IsCalm, IsMove, IsTransferOf, IsAtPiece, IsServedBy, HasToWaitFor, want_for}
+use Rattle.array_control.specs.Arrays.{HasGrownBy, IsAskFor, IsCalm, IsMove, IsTransferOf, IsAtPiece, IsServedBy, HasToWaitFor, want_for}
 use Rattle.array_control.specs.Progress.{HasCome, IsServing}
 use Rattle.array_control.proofs.CalmDecisions.{calm-reads, calm-writes}
 use Rattle.array_control.proofs.Progress.{piece-begins}
@@ -169,6 +170,14 @@ module _ (alone : Bool) (b : BusSetting) (run : CallRun) (ask : Ask) (answer : B
 
     pub begun-now : now ≡ entry ∷ journal
     begun-now = came ∙ ap (λ (es : List Entry). es ++ journal) one
+
+    -- the opening is of this call
+    pub begun-grown : HasGrownBy run.number journal now
+    begun-grown = record {
+      entry = entry;
+      newest = begun-now;
+      own = λ k other. ne_eqb task.call k (λ same. other (sym same ∙ (task-of_call b journal quiet d.book own d.of_array run ask asked transfer task.kind task opened.task_is).0));
+    }
 
     pub begun-undisturbed : IsUndisturbed now
     begun-undisturbed = subst IsUndisturbed (sym begun-now) (refl, calm.undisturbed)

@@ -14,6 +14,7 @@ use Rattle.array_journal.specs.declared.event.Event.{Event}
 use Rattle.array_journal.specs.declared.task.Kind.{Kind}
 use Rattle.array_journal.specs.declared.task.Kind.TheVariants as kinds
 use Rattle.array_journal.specs.declared.task.Task.{Task}
+use Rattle.array_journal.specs.Calls.{is_of_call}
 use Rattle.array_journal.specs.Entries.{name_of}
 use Rattle.array_journal.specs.Host.{is_read}
 use Rattle.array_journal.specs.May.{bytes_of}
@@ -68,6 +69,15 @@ act-doing mode Diffs order cdb row bytes c h = eq-eqb order.owner c h
 act-doing mode Takes order cdb row bytes c h = eq-eqb order.owner c h
 act-doing mode Folds order cdb row bytes c h = eq-eqb order.owner c h
 act-doing mode Holds order cdb row bytes c h = eq-eqb order.owner c h
+
+-- and is of no call by itself
+acts-of_none : (k : ℕ) (mode : Mode) (act : ActKind) (order : Order) (cdb : Cdb) (row : ℕ) (bytes : List ℕ) → is_of_call k (act_event mode act order cdb row bytes) ≡ false
+acts-of_none k mode Fetches order cdb row bytes = refl
+acts-of_none k mode Puts order cdb row bytes = refl
+acts-of_none k mode Diffs order cdb row bytes = refl
+acts-of_none k mode Takes order cdb row bytes = refl
+acts-of_none k mode Folds order cdb row bytes = refl
+acts-of_none k mode Holds order cdb row bytes = refl
 
 -- the same command, and the bytes that it will reply
 record GoesOnWith (p new : PlanState) (reply : List ℕ) : Type 0 where
@@ -199,6 +209,27 @@ module _ (b : BusSetting) (run : CallRun) (doing new : PieceRun) (journal now : 
       )
   comes-by Over said is idle told at has next begun = absurd at
 
+  -- ---- the entry is of no call by itself
+
+  same-entry : (e : Entry) (past : List Entry) → now ≡ e ∷ past → e ≡ grown.0
+  same-entry e past is = let both : e ∷ past ≡ grown.0 ∷ journal = sym is ∙ grown.1 in cc
+
+  none-carries : (k : ℕ) (step : Step) (said : Option Said) → IsToldAt step b doing.plan said now → (step ≡ Begun → ⊥) → is_of_call k grown.0.event ≡ false
+  none-carries k Begun said at begun = absurd (begun refl)
+  none-carries k (Acting act) said at begun =
+      let m : IsMadeBy doing.plan act at.entry = at.followed.made.0 in
+      subst (λ (e : Entry). is_of_call k e.event ≡ false) (same-entry at.entry at.past at.newest)
+      (ap (is_of_call k) m.event ∙ acts-of_none k doing.plan.mode act m.order m.cdb doing.plan.task.row m.bytes)
+  none-carries k Closing said at begun =
+      subst (λ (e : Entry). is_of_call k e.event ≡ false) (same-entry at.entry at.past at.newest) (ap (is_of_call k) at.event)
+  none-carries k Over said at begun = absurd at
+
+  never-begun : doing.plan.step ≡ Begun → ⊥
+  never-begun is = subst (λ (step : Step). IsOnStep step b doing.plan doing.next journal) is served.asked.on
+
+  pub followed-own : WentOn b doing.plan new journal now → (k : ℕ) → is_of_call k grown.0.event ≡ false
+  followed-own went k = none-carries k doing.plan.step went.said went.told never-begun
+
   pub followed : WentOn b doing.plan new journal now → run.doing ≡ None → Comes
   followed went idle = comes-by doing.plan.step went.said refl idle went.told went.told went.next went.next
       (λ is. subst (λ (step : Step). IsOnStep step b doing.plan doing.next journal) is served.asked.on)
@@ -220,7 +251,7 @@ followed-comes b run doing new journal now way plan runs idle went after is =
     let came = followed b run doing new journal now way.at_piece plan runs went.grown went idle in
     let same : IsSameCall run (kept_by run new new.next) = kept-same run new new.next in
     let k : CallRun = kept_by run new new.next in (
-      went.grown,
+      record { entry = went.grown.0; newest = went.grown.1; own = λ n other. followed-own b run doing new journal now way.at_piece plan runs went.grown went n },
       (
         subst (λ (r : CallRun). IsUnderWay b r now) (sym is) (record {
           transfer = subst (λ (t : Transfer). IsTransferOf b (transfer_as t)) (sym same.transfer) way.transfer;

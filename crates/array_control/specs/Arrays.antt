@@ -1,6 +1,6 @@
 -- What an array is set to, and how far it has come with a call of a host. A journal has the newest entry first here: it is all
 -- entries of a bus that is alone.
-use Rattle.std.specs.Prelude.{◌≡◌, ◌≢◌, ◌++◌, ◌==◌, ◌≤◌, ◌+◌, ℕ, Bool, true, false, min, List, length, Option, Some, None, if◌then◌else◌}
+use Rattle.std.specs.Prelude.{◌≡◌, ◌≢◌, ◌++◌, ◌==◌, ◌≤◌, ◌+◌, ℕ, Bool, true, false, min, List, ◌∷◌, length, Option, Some, None, if◌then◌else◌}
 use Rattle.stripe_layout.specs.declared.geometry.Geometry.{Geometry}
 use Rattle.stripe_layout.specs.declared.mode.Mode.{Mode}
 use Rattle.stripe_layout.specs.declared.pieces.Piece.{Piece}
@@ -10,6 +10,7 @@ use Rattle.stripe_layout.specs.Pieces.{pieces_of}
 use Rattle.array_journal.specs.declared.decision.Want.{Want}
 use Rattle.array_journal.specs.declared.decision.Want.TheVariants.{Read, Write}
 use Rattle.array_journal.specs.declared.entry.Entry.{Entry}
+use Rattle.array_journal.specs.Calls.{is_of_call}
 use Rattle.array_journal.specs.Laws.{lane}
 use Rattle.array_journal.specs.Run.{Grows, IsSetting}
 use Rattle.array_book.specs.declared.asks.Ask.{Ask}
@@ -140,9 +141,15 @@ pub record HasToWaitFor (b : BusSetting) (run : CallRun) (by : ℕ) (journal : L
   pub asked : IsAskFor b run ask
   pub waits : HasToWait b.array (lane 0 journal) ask by
 
+-- one entry came, which is of no other call than this
+pub record HasGrownBy (n : ℕ) (journal now : List Entry) : Type 0 where
+  pub entry : Entry
+  pub newest : now ≡ entry ∷ journal
+  pub own : (k : ℕ) → k ≢ n → is_of_call k entry.event ≡ false
+
 -- One entry was made, by which the call has come further; or its piece has to wait, and nothing was done.
 abbrev pub ComesTo : BusSetting → CallRun → Advanced → CallRun → List Entry → List Entry → Type 0
-ComesTo b old Made new journal now = HasGrown journal now × (IsUnderWay b new now × IsSameCall old new)
+ComesTo b old Made new journal now = HasGrownBy old.number journal now × (IsUnderWay b new now × IsSameCall old new)
 ComesTo b old (Blocked by) new journal now = (now ≡ journal) × ((new ≡ old) × HasToWaitFor b old by journal)
 
 -- a plan that comes to its end asks for an act, or replies what was read

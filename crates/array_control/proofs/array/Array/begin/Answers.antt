@@ -2,7 +2,7 @@ use Rattle.std.proofs.Common.{refl, sym, subst}
 use Rattle.stripe_layout.specs.declared.mode.Mode.{Mode}
 use Rattle.unit_plans.specs.Plans.{IsPlanned}
 use Rattle.array_control.specs.Arrays.{IsCalm}
-use Rattle.array_control.proofs.Beginning.{begun-planned, begun-or_stopped, begun-now, begun-undisturbed, begun-serves, again-now, again-waits, come-of, calm-reliable, calm-grown}
+use Rattle.array_control.proofs.Beginning.{begun-planned, begun-or_stopped, begun-grown, begun-undisturbed, begun-serves, again-now, again-waits, come-of, calm-reliable, calm-grown}
 use Rattle.array_control.proofs.array.Array.begin.Goals as goal
 
 pub plan_of-requires-clause-planned : goal.plan_of-requires-clause-planned
@@ -19,10 +19,9 @@ unreachable-requires-in-Refused g c =
 pub returns-in_ok-plan_of-in-Opened-clause-comes : goal.returns-in_ok-plan_of-in-Opened-clause-comes
 returns-in_ok-plan_of-in-Opened-clause-comes g c = (
   (
-    _,
-    begun-now _ _ c.args.run.now c.in_ok-ask.ask c.in-Begun.answer c.in_ok-acted.acted _ _ _ _ c.in-Begun.is c.in_ok-acted.ensures.done
-        (calm-reliable _ _ _ _ c.requires.calm) c.in_ok-ask.ensures c.requires.run.transfer c.in-Opened.at c.in-Opened.command c.in-Opened.task c.in-Opened.is,
-  ),
+      begun-grown _ _ c.args.run.now c.in_ok-ask.ask c.in-Begun.answer c.in_ok-acted.acted _ _ _ _ c.in-Begun.is c.in_ok-acted.ensures.done
+      (calm-reliable _ _ _ _ c.requires.calm) c.in_ok-ask.ensures c.requires.run.transfer c.in-Opened.at c.in-Opened.command c.in-Opened.task c.in-Opened.is
+      ),
   (
     record {
       transfer = c.requires.run.transfer;
