@@ -16,5 +16,5 @@ pub use begins::{Begin, PieceRequest, begin_decided, begin_failure, begin_swap};
 pub use cdbs::is_write;
 pub use faults::RequestFault;
 pub use payloads::Payload;
-pub use requests::{Request, Transfer, request_of};
+pub use requests::{Request, Transfer, raw_request, request_of};
 pub use settings::{most_blocks, setting_of};

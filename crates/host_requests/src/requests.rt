@@ -98,8 +98,9 @@ fn moved<'a>(
     }
 }
 
-/// What a CDB asks, with the bytes that came with it.
-fn raw_request<'a>(geometry: &Geometry, cdb: &[u8], bytes: &'a [u8]) -> Request<'a>
+/// What a host's CDB asks, with the bytes that came with it. It is refused for the first test that it fails, in the order of
+/// `request_of`.
+pub fn raw_request<'a>(geometry: &Geometry, cdb: &[u8], bytes: &'a [u8]) -> Request<'a>
     requires { IsArray geometry.now }
     ensures value { request_as result ≡ unless (cdb_fault cdb.now) (moved geometry.now (raw_transfer cdb.now bytes.now)) }
     ensures within { IsWithin geometry.now result }
