@@ -18,7 +18,8 @@ use Rattle.host_requests.specs.Forms.{transfer_as, payload_bytes}
 use Rattle.host_requests.specs.Requests.{Transfer, bytes_due}
 use Rattle.unit_plans.specs.Buses.{BusSetting}
 use Rattle.array_control.specs.declared.call_run.CallRun.{CallRun}
-use Rattle.array_control.specs.Arrays.{IsArrayOf, IsAskFor, IsMove, IsTransferOf, most_of, pieces_by, want_for}
+use Rattle.array_control.specs.Arrays.{IsArrayOf, IsAskFor, IsMove, IsTransferOf, part_of, want_for}
+use Rattle.array_control.specs.Begins.{most_of, pieces_by}
 use Rattle.array_control.proofs.PieceWants.{piece-is, piece-within, piece-most, piece-bytes}
 
 pub most-some : (b : BusSetting) → IsSetting b.array → 1 ≤ most_of b
@@ -98,18 +99,17 @@ module _ (b : BusSetting) (geometry : Geometry) (mode : Mode) (max : ℕ) (array
 pub asked-for : (b : BusSetting) (geometry : Geometry) (mode : Mode) (max : ℕ) (run : CallRun) (piece : Piece) (want : BookWant) → IsArrayOf b geometry mode max →
     IsSetting b.array → IsTransferOf b (transfer_as run.transfer) → slice_get (pieces_of geometry max run.transfer.lba run.transfer.count) run.piece ≡ Some piece →
     want ≡ want_for run.transfer.wanted piece (slice (payload_bytes run.transfer.bytes) ((piece.first - run.transfer.lba) * geometry.block) (piece.count * geometry.block)) →
-    IsAskFor b run (record { call = run.number; piece = run.piece; want = want })
+    IsAskFor b run.number (transfer_as run.transfer) run.piece (record { call = run.number; piece = run.piece; want = want })
 asked-for b geometry mode max run piece want array set is at wants =
     let there = sym (pieces-same b geometry mode max array run.transfer.lba run.transfer.count run.piece) ∙ at in
     let t = transfer_as run.transfer in
-    let bytes = slice t.bytes ((piece.first - t.lba) * b.array.geometry.block) (piece.count * b.array.geometry.block) in
-    let same : want ≡ want_for run.transfer.wanted piece bytes =
-    wants ∙ ap (λ (g : Geometry). want_for run.transfer.wanted piece (slice t.bytes ((piece.first - t.lba) * g.block) (piece.count * g.block))) array.geometry_is in
+    let same : want ≡ want_for run.transfer.wanted piece (part_of b.array.geometry t piece) =
+    wants ∙ ap (λ (g : Geometry). want_for run.transfer.wanted piece (part_of g t piece)) array.geometry_is in
     record {
       blocks = piece;
-      bytes = bytes;
+      at = there;
       call = refl;
-      piece = refl;
+      piece_is = refl;
       want = same;
       sound = subst (IsWant b.array) (sym same) (asked-sound b t run.piece piece set is there);
       most = asked-most b t run.piece piece set is there;

@@ -1,5 +1,5 @@
 -- A piece is begun: what the book decides of it, and what the call has come to then.
-use Rattle.std.specs.Prelude.{◌≡◌, ◌≢◌, ◌≤◌, ◌<◌, ◌++◌, ◌⊎◌, ◌+◌, max, ℕ, Bool, true, List, [], ◌∷◌, Option, None}
+use Rattle.std.specs.Prelude.{◌≡◌, ◌≢◌, ◌≤◌, ◌<◌, ◌++◌, ◌⊎◌, ◌+◌, max, ℕ, Bool, true, List, [], ◌∷◌, Option, Some, None, option_map, slice_get}
 use Rattle.std.proofs.Common.{refl, ap, sym, ◌∙◌, subst, inl, inr}
 use Rattle.std.proofs.lemmas.Bool.{ne_eqb}
 use Rattle.std.proofs.lemmas.List.{append_cancel_right}
@@ -7,6 +7,7 @@ use Rattle.stripe_layout.specs.declared.geometry.Geometry.{Geometry}
 use Rattle.stripe_layout.specs.declared.mode.Mode.{Mode}
 use Rattle.stripe_layout.specs.declared.pieces.Piece.{Piece}
 use Rattle.array_journal.specs.declared.at.At.{At}
+use Rattle.array_journal.specs.declared.decision.Decision.{Decision}
 use Rattle.array_journal.specs.declared.decision.Decision.TheVariants.{Opens, Refuses}
 use Rattle.array_journal.specs.declared.decision.Want.{Want}
 use Rattle.array_journal.specs.declared.decision.Want.TheVariants as services
@@ -26,10 +27,13 @@ use Rattle.array_book.specs.declared.asks.Ask.{Ask}
 use Rattle.array_book.specs.declared.asks.Want.{Want as BookWant}
 use Rattle.array_book.specs.declared.answers.Begun.{Begun}
 use Rattle.array_book.specs.declared.answers.Begun.TheVariants as answers
-use Rattle.array_book.specs.Asks.{decided, IsTaskFor}
+use Rattle.array_book.specs.Asks.{decided, IsTaskFor, task_at}
+use Rattle.array_book.specs.Asks.{piece_aim as rows_of}
 use Rattle.array_book.specs.BookAnswers.{HasBegun, HasOpened, HasToWait}
 use Rattle.array_book.specs.Ledgers.{Ledger, book_entry, newest_stamp}
+use Rattle.host_requests.specs.Begins.{Opening, begin_decided, piece_aim, task_of_piece}
 use Rattle.host_requests.specs.Forms.{transfer_as}
+use Rattle.host_requests.specs.Requests.{Moves}
 use Rattle.xor_target.specs.Logs.{last_stamp}
 use Rattle.unit_plans.specs.declared.acts.BookAct.TheVariants.{Begin}
 use Rattle.unit_plans.specs.declared.acts.BookActed.{BookActed}
@@ -44,7 +48,8 @@ use Rattle.unit_plans.proofs.GoesOn.{plans-go_on}
 use Rattle.unit_plans.proofs.PlansBegin.{plans-begin}
 use Rattle.array_control.specs.declared.call_run.CallRun.{CallRun}
 use Rattle.array_control.specs.declared.call_run.PieceRun.{PieceRun}
-use Rattle.array_control.specs.Arrays.{HasGrownBy, IsAskFor, IsCalm, IsMove, IsTransferOf, IsAtPiece, IsServedBy, HasToWaitFor, want_for}
+use Rattle.array_control.specs.Arrays.{HasGrownBy, IsAskFor, IsCalm, IsMove, IsTransferOf, IsAtPiece, IsServedBy, HasToWaitFor, part_of, want_for}
+use Rattle.array_control.specs.Begins.{begin_aim_on, begin_on, pieces_by}
 use Rattle.array_control.specs.Progress.{HasCome, IsServing}
 use Rattle.array_control.proofs.CalmDecisions.{calm-reads, calm-writes}
 use Rattle.array_control.proofs.Progress.{piece-begins}
@@ -53,6 +58,21 @@ use Rattle.array_control.proofs.Progress.{piece-begins}
 abbrev pub kind_for : Want → Kind
 kind_for services.Write = kinds.Update
 kind_for _ = kinds.Read
+
+-- the task that the book gives a piece is the one that is asked for
+as-asked : (g : Geometry) (want : Want) → IsMove want → (lba count : ℕ) (bytes : List ℕ) (blocks : Piece) (ask : Ask) (kind : Kind) (task : Task) →
+    ask.want ≡ want_for want blocks (part_of g (record { want = want; lba = lba; count = count; bytes = bytes }) blocks) → IsTaskFor g ask kind task →
+    task ≡ task_of_piece g task.call task.piece (piece_aim g (record { want = want; lba = lba; count = count; bytes = bytes }) blocks) kind
+as-asked g services.Read moves lba count bytes blocks ask kind task wants for =
+    let is : task ≡ task_at g ask.call ask.piece kind (rows_of services.Read blocks) [] = subst (λ (w : BookWant). IsTaskFor g (record ask { want = w }) kind task) wants for in
+    is ∙ ap (λ c. task_at g c ask.piece kind (rows_of services.Read blocks) []) (sym (ap (λ (x : Task). x.call) is))
+    ∙ ap (λ p. task_at g task.call p kind (rows_of services.Read blocks) []) (sym (ap (λ (x : Task). x.piece) is))
+as-asked g services.Write moves lba count bytes blocks ask kind task wants for =
+    let part : List ℕ = part_of g (record { want = services.Write; lba = lba; count = count; bytes = bytes }) blocks in
+    let is : task ≡ task_at g ask.call ask.piece kind (rows_of services.Write blocks) part = subst (λ (w : BookWant). IsTaskFor g (record ask { want = w }) kind task) wants for in
+    is ∙ ap (λ c. task_at g c ask.piece kind (rows_of services.Write blocks) part) (sym (ap (λ (x : Task). x.call) is))
+    ∙ ap (λ p. task_at g task.call p kind (rows_of services.Write blocks) part) (sym (ap (λ (x : Task). x.piece) is))
+as-asked g _ moves lba count bytes blocks ask kind task wants for = absurd moves
 
 module _ (b : BusSetting) (journal : List Entry) (calm : IsCalm true true b journal) (book : Ledger) (own : lane 0 journal ≡ book.past) (set_is : book.setting ≡ b.array) where
   decides : (want : Want) → IsMove want → (piece : Piece) (bytes : List ℕ) → decided book.setting book.past (want_for want piece bytes) ≡ Opens (kind_for want)
@@ -68,9 +88,15 @@ module _ (b : BusSetting) (journal : List Entry) (calm : IsCalm true true b jour
       ∙ calm-writes b.array piece.place.stripe piece.place.target journal calm.runs calm.undisturbed
   decides _ moves piece bytes = absurd moves
 
-  module _ (run : CallRun) (ask : Ask) (asked : IsAskFor b run ask) (transfer : IsTransferOf b (transfer_as run.transfer)) where
+  -- over all entries it decides the same
+  decides-here : (want : Want) → IsMove want → (piece : Piece) → decision b.array want piece.place.stripe piece.place.target journal ≡ Opens (kind_for want)
+  decides-here services.Read moves piece = calm-reads b.array piece.place.stripe piece.place.target journal calm.runs calm.undisturbed
+  decides-here services.Write moves piece = calm-writes b.array piece.place.stripe piece.place.target journal calm.runs calm.undisturbed
+  decides-here _ moves piece = absurd moves
+
+  module _ (run : CallRun) (ask : Ask) (asked : IsAskFor b run.number (transfer_as run.transfer) run.piece ask) (transfer : IsTransferOf b (transfer_as run.transfer)) where
     asked-decides : decided book.setting book.past ask.want ≡ Opens (kind_for run.transfer.wanted)
-    asked-decides = ap (decided book.setting book.past) asked.want ∙ decides run.transfer.wanted transfer.moves asked.blocks asked.bytes
+    asked-decides = ap (decided book.setting book.past) asked.want ∙ decides run.transfer.wanted transfer.moves asked.blocks (part_of b.array.geometry (transfer_as run.transfer) asked.blocks)
 
     pub never-refused : (why : Why) → decided book.setting book.past ask.want ≡ Refuses why → ⊥
     never-refused why refused = let no : Opens (kind_for run.transfer.wanted) ≡ Refuses why = sym asked-decides ∙ refused in cc
@@ -90,7 +116,7 @@ module _ (b : BusSetting) (journal : List Entry) (calm : IsCalm true true b jour
     pub task-counts : (kind : Kind) (task : Task) → IsTaskFor book.setting.geometry ask kind task → task.count ≡ asked.blocks.count
     task-counts kind task for = by run.transfer.wanted transfer.moves (subst (λ (w : BookWant). IsTaskFor book.setting.geometry (record ask { want = w }) kind task) asked.want for)
       where
-        by : (want : Want) → IsMove want → IsTaskFor book.setting.geometry (record ask { want = want_for want asked.blocks asked.bytes }) kind task → task.count ≡ asked.blocks.count
+        by : (want : Want) → IsMove want → IsTaskFor book.setting.geometry (record ask { want = want_for want asked.blocks (part_of b.array.geometry (transfer_as run.transfer) asked.blocks) }) kind task → task.count ≡ asked.blocks.count
         by services.Read moves h = ap (λ (t : Task). t.count) h
         by services.Write moves h = ap (λ (t : Task). t.count) h
         by _ moves h = absurd moves
@@ -98,11 +124,26 @@ module _ (b : BusSetting) (journal : List Entry) (calm : IsCalm true true b jour
     pub task-of_call : (kind : Kind) (task : Task) → IsTaskFor book.setting.geometry ask kind task → (task.call ≡ run.number) × (task.piece ≡ run.piece)
     task-of_call kind task for = by run.transfer.wanted transfer.moves (subst (λ (w : BookWant). IsTaskFor book.setting.geometry (record ask { want = w }) kind task) asked.want for)
       where
-        by : (want : Want) → IsMove want → IsTaskFor book.setting.geometry (record ask { want = want_for want asked.blocks asked.bytes }) kind task →
+        by : (want : Want) → IsMove want → IsTaskFor book.setting.geometry (record ask { want = want_for want asked.blocks (part_of b.array.geometry (transfer_as run.transfer) asked.blocks) }) kind task →
             (task.call ≡ run.number) × (task.piece ≡ run.piece)
-        by services.Read moves h = (ap (λ (t : Task). t.call) h ∙ asked.call, ap (λ (t : Task). t.piece) h ∙ asked.piece)
-        by services.Write moves h = (ap (λ (t : Task). t.call) h ∙ asked.call, ap (λ (t : Task). t.piece) h ∙ asked.piece)
+        by services.Read moves h = (ap (λ (t : Task). t.call) h ∙ asked.call, ap (λ (t : Task). t.piece) h ∙ asked.piece_is)
+        by services.Write moves h = (ap (λ (t : Task). t.call) h ∙ asked.call, ap (λ (t : Task). t.piece) h ∙ asked.piece_is)
         by _ moves h = absurd moves
+
+    -- a piece is begun as is asked: its command has the task of the piece, of the kind that the book decides
+    pub begun-as_asked : (task : Task) → task.piece ≡ run.piece → decided book.setting book.past ask.want ≡ Opens task.kind → IsTaskFor book.setting.geometry ask task.kind task →
+        begin_on b task.call task.piece journal (Moves (transfer_as run.transfer)) ≡ Some (Opening task)
+    begun-as_asked task piece opened for =
+        let t = transfer_as run.transfer in
+        let aim = piece_aim b.array.geometry t asked.blocks in
+        let kind : task.kind ≡ kind_for run.transfer.wanted = kind-opened task.kind opened in
+        let for_array = subst (λ (s : Setting). IsTaskFor s.geometry ask task.kind task) set_is for in
+        let there : slice_get (pieces_by b t) task.piece ≡ Some asked.blocks = ap (slice_get (pieces_by b t)) piece ∙ asked.at in
+        ap (option_map (λ (blocks : Piece). begin_aim_on b task.call task.piece journal (piece_aim b.array.geometry t blocks))) there
+        ∙ ap (λ (d : Decision). Some (begin_decided b.array.geometry task.call task.piece aim d)) (decides-here run.transfer.wanted transfer.moves asked.blocks)
+        ∙ ap (λ (k : Kind). Some (Opening (task_of_piece b.array.geometry task.call task.piece aim k))) (sym kind)
+        ∙ ap (λ (x : Task). Some (Opening x))
+        (sym (as-asked b.array.geometry run.transfer.wanted transfer.moves t.lba t.count t.bytes asked.blocks ask task.kind task asked.want for_array))
 
 -- ---- what came of it
 
@@ -127,7 +168,7 @@ task-moves s g m task same h = subst (λ (x : Geometry). IsTask (record { geomet
     by kinds.Rebuild k = k
     by kinds.Resync k = k
 
-module _ (alone : Bool) (b : BusSetting) (run : CallRun) (ask : Ask) (answer : Begun) (acted : BookActed) (journal made now now_made : List Entry) (booked : acted ≡ Booked answer) (done : IsDoneInBook alone b (Begin ask) acted journal made now now_made) (calm : IsCalm alone true b journal) (asked : IsAskFor b run ask) (transfer : IsTransferOf b (transfer_as run.transfer)) where
+module _ (alone : Bool) (b : BusSetting) (run : CallRun) (ask : Ask) (answer : Begun) (acted : BookActed) (journal made now now_made : List Entry) (booked : acted ≡ Booked answer) (done : IsDoneInBook alone b (Begin ask) acted journal made now now_made) (calm : IsCalm alone true b journal) (asked : IsAskFor b run.number (transfer_as run.transfer) run.piece ask) (transfer : IsTransferOf b (transfer_as run.transfer)) where
   abbrev d : IsDoneInBook alone b (Begin ask) (Booked answer) journal made now now_made
   d = subst (λ (x : BookActed). IsDoneInBook alone b (Begin ask) x journal made now now_made) booked done
 
@@ -171,12 +212,19 @@ module _ (alone : Bool) (b : BusSetting) (run : CallRun) (ask : Ask) (answer : B
     pub begun-now : now ≡ entry ∷ journal
     begun-now = came ∙ ap (λ (es : List Entry). es ++ journal) one
 
-    -- the opening is of this call
-    pub begun-grown : HasGrownBy run.number journal now
+    its-call : (task.call ≡ run.number) × (task.piece ≡ run.piece)
+    its-call = task-of_call b journal quiet d.book own d.of_array run ask asked transfer task.kind task opened.task_is
+
+    -- the opening is of this call, and as the book decides of what is asked
+    pub begun-grown : HasGrownBy b run.number (Moves (transfer_as run.transfer)) journal now
     begun-grown = record {
       entry = entry;
       newest = begun-now;
-      own = λ k other. ne_eqb task.call k (λ same. other (sym same ∙ (task-of_call b journal quiet d.book own d.of_array run ask asked transfer task.kind task opened.task_is).0));
+      is_for = record {
+        of_this = inl (ap Some its-call.0);
+        own = λ k other. ne_eqb task.call k (λ same. other (sym same ∙ its-call.0));
+        begun = begun-as_asked b journal quiet d.book own d.of_array run ask asked transfer task its-call.1 opened.decided_so opened.task_is;
+      };
     }
 
     pub begun-undisturbed : IsUndisturbed now
@@ -218,7 +266,7 @@ module _ (alone : Bool) (b : BusSetting) (run : CallRun) (ask : Ask) (answer : B
         }
 
 -- a piece that has to wait
-module _ (alone : Bool) (b : BusSetting) (run : CallRun) (ask : Ask) (answer : Begun) (acted : BookActed) (journal made now now_made : List Entry) (booked : acted ≡ Booked answer) (done : IsDoneInBook alone b (Begin ask) acted journal made now now_made) (calm : IsCalm alone true b journal) (asked : IsAskFor b run ask) (by : ℕ) (is : answer ≡ answers.Again by) where
+module _ (alone : Bool) (b : BusSetting) (run : CallRun) (ask : Ask) (answer : Begun) (acted : BookActed) (journal made now now_made : List Entry) (booked : acted ≡ Booked answer) (done : IsDoneInBook alone b (Begin ask) acted journal made now now_made) (calm : IsCalm alone true b journal) (asked : IsAskFor b run.number (transfer_as run.transfer) run.piece ask) (by : ℕ) (is : answer ≡ answers.Again by) where
   abbrev e : IsDoneInBook alone b (Begin ask) (Booked answer) journal made now now_made
   e = subst (λ (x : BookActed). IsDoneInBook alone b (Begin ask) x journal made now now_made) booked done
 
@@ -234,7 +282,7 @@ module _ (alone : Bool) (b : BusSetting) (run : CallRun) (ask : Ask) (answer : B
   pub again-now : now ≡ journal
   again-now = e.come.alone_after calm.is_alone ∙ ap (λ (j : List Entry). e.entries ++ j) there ∙ ap (λ (es : List Entry). es ++ journal) none
 
-  pub again-waits : HasToWaitFor b run by journal
+  pub again-waits : HasToWaitFor b run.number (transfer_as run.transfer) run.piece by journal
   again-waits =
       let at-book : HasToWait b.array e.book.past ask by = subst (λ (s : Setting). HasToWait s e.book.past ask by) e.of_array again.0 in
       record {

@@ -1,6 +1,6 @@
 -- A plan is followed by one entry: what the call has come to then.
-use Rattle.std.specs.Prelude.{◌≡◌, ◌++◌, ◌+◌, suc, ℕ, Bool, true, false, List, [], ◌∷◌, length, Option, Some, None}
-use Rattle.std.proofs.Common.{refl, ap, sym, ◌∙◌, subst, cond, arith}
+use Rattle.std.specs.Prelude.{◌≡◌, ◌++◌, ◌⊎◌, ◌+◌, suc, ℕ, Bool, true, false, List, [], ◌∷◌, length, Option, Some, None}
+use Rattle.std.proofs.Common.{refl, ap, sym, ◌∙◌, subst, cond, arith, inl, inr}
 use Rattle.std.proofs.lemmas.List.{append-nil}
 use Rattle.std.proofs.lemmas.Bool.{eq-eqb}
 use Rattle.stripe_layout.specs.declared.mode.Mode.{Mode}
@@ -15,12 +15,15 @@ use Rattle.array_journal.specs.declared.task.Kind.{Kind}
 use Rattle.array_journal.specs.declared.task.Kind.TheVariants as kinds
 use Rattle.array_journal.specs.declared.task.Task.{Task}
 use Rattle.array_journal.specs.Calls.{is_of_call}
+use Rattle.array_journal.specs.Commands.{ends_command}
 use Rattle.array_journal.specs.Entries.{name_of}
 use Rattle.array_journal.specs.Host.{is_read}
 use Rattle.array_journal.specs.May.{bytes_of}
 use Rattle.array_journal.specs.Run.{Grows}
 use Rattle.host_requests.specs.declared.requests.Transfer.{Transfer}
 use Rattle.host_requests.specs.Forms.{transfer_as}
+use Rattle.host_requests.specs.Requests.{Request, Moves}
+use Rattle.stripe_check.specs.Steps.{call_of}
 use Rattle.xor_target.specs.declared.order.Order.{Order}
 use Rattle.unit_plans.specs.declared.doings.Do.{Do}
 use Rattle.unit_plans.specs.declared.doings.Do.TheVariants as dos
@@ -35,9 +38,11 @@ use Rattle.unit_plans.specs.ServedOrders.{act_event}
 use Rattle.unit_plans.proofs.GoesOn.{plans-go_on}
 use Rattle.array_control.specs.declared.call_run.CallRun.{CallRun}
 use Rattle.array_control.specs.declared.call_run.PieceRun.{PieceRun}
-use Rattle.array_control.specs.Arrays.{ActsOrReads, ComesTo, IsServedBy, IsSameCall, IsTransferOf, IsUnderWay, IsAtPiece, WentOn, kept_by, pieces_by}
+use Rattle.array_control.specs.Arrays.{ActsOrReads, ComesTo, IsEntryFor, IsServedBy, IsSameCall, IsTransferOf, IsUnderWay, IsAtPiece, WentOn, kept_by}
+use Rattle.array_control.specs.Begins.{IsBegunAs, pieces_by}
 use Rattle.array_control.specs.declared.serving.Advanced.TheVariants.{Made}
 use Rattle.array_control.specs.Progress.{HasCome, IsServing, is_doing, bytes_by_act, bytes_by_close}
+use Rattle.array_control.proofs.Apart.{commands-call}
 use Rattle.array_control.proofs.Progress.{acts-go_on, piece-ends}
 
 -- what is no reply is done next
@@ -78,6 +83,16 @@ acts-of_none k mode Diffs order cdb row bytes = refl
 acts-of_none k mode Takes order cdb row bytes = refl
 acts-of_none k mode Folds order cdb row bytes = refl
 acts-of_none k mode Holds order cdb row bytes = refl
+
+-- and begins no piece
+acts-begin_none : (b : BusSetting) (request : Request) (past : List Entry) (mode : Mode) (act : ActKind) (order : Order) (cdb : Cdb) (row : ℕ) (bytes : List ℕ) →
+    IsBegunAs b request (act_event mode act order cdb row bytes) past
+acts-begin_none b request past mode Fetches order cdb row bytes = tt
+acts-begin_none b request past mode Puts order cdb row bytes = tt
+acts-begin_none b request past mode Diffs order cdb row bytes = tt
+acts-begin_none b request past mode Takes order cdb row bytes = tt
+acts-begin_none b request past mode Folds order cdb row bytes = tt
+acts-begin_none b request past mode Holds order cdb row bytes = tt
 
 -- the same command, and the bytes that it will reply
 record GoesOnWith (p new : PlanState) (reply : List ℕ) : Type 0 where
@@ -230,6 +245,44 @@ module _ (b : BusSetting) (run : CallRun) (doing new : PieceRun) (journal now : 
   pub followed-own : WentOn b doing.plan new journal now → (k : ℕ) → is_of_call k grown.0.event ≡ false
   followed-own went k = none-carries k doing.plan.step went.said went.told never-begun
 
+  -- and begins nothing
+  nothing-begun : (request : Request) (step : Step) (said : Option Said) → IsToldAt step b doing.plan said now → (step ≡ Begun → ⊥) →
+      IsBegunAs b request grown.0.event journal
+  nothing-begun request Begun said at begun = absurd (begun refl)
+  nothing-begun request (Acting act) said at begun =
+      let m : IsMadeBy doing.plan act at.entry = at.followed.made.0 in
+      subst (λ (e : Entry). IsBegunAs b request e.event journal) (same-entry at.entry at.past at.newest)
+      (subst (λ (x : Event). IsBegunAs b request x journal) (sym m.event) (acts-begin_none b request journal doing.plan.mode act m.order m.cdb doing.plan.task.row m.bytes))
+  nothing-begun request Closing said at begun =
+      subst (λ (e : Entry). IsBegunAs b request e.event journal) (same-entry at.entry at.past at.newest)
+      (subst (λ (x : Event). IsBegunAs b request x journal) (sym at.event) tt)
+  nothing-begun request Over said at begun = absurd at
+
+  -- but of the call of its command
+  of-its_call : (e : Entry) (past : List Entry) → now ≡ e ∷ past → (is_doing doing.plan.command e.event ≡ true) ⊎ (ends_command doing.plan.command e.event ≡ true) →
+      call_of grown.0.event journal ≡ Some run.number
+  of-its_call e past newest does =
+      subst (λ (x : Entry). call_of x.event journal ≡ Some run.number) (same-entry e past newest)
+      (commands-call doing.plan.command doing.plan.task e journal served.serving.its_task does ∙ ap Some served.serving.of_call)
+
+  its-call : (step : Step) (said : Option Said) → IsToldAt step b doing.plan said now → (step ≡ Begun → ⊥) → call_of grown.0.event journal ≡ Some run.number
+  its-call Begun said at begun = absurd (begun refl)
+  its-call (Acting act) said at begun =
+      let m : IsMadeBy doing.plan act at.entry = at.followed.made.0 in
+      of-its_call at.entry at.past at.newest (inl (
+      ap (is_doing doing.plan.command) m.event ∙ act-doing doing.plan.mode act m.order m.cdb doing.plan.task.row m.bytes doing.plan.command m.owner
+      ))
+  its-call Closing said at begun =
+      of-its_call at.entry at.past at.newest (inr (ap (ends_command doing.plan.command) at.event ∙ eq-eqb doing.plan.command doing.plan.command refl))
+  its-call Over said at begun = absurd at
+
+  pub followed-is_for : (request : Request) → WentOn b doing.plan new journal now → IsEntryFor b run.number request grown.0 journal
+  followed-is_for request went = record {
+    of_this = inl (its-call doing.plan.step went.said went.told never-begun);
+    own = λ k other. followed-own went k;
+    begun = nothing-begun request doing.plan.step went.said went.told never-begun;
+  }
+
   pub followed : WentOn b doing.plan new journal now → run.doing ≡ None → Comes
   followed went idle = comes-by doing.plan.step went.said refl idle went.told went.told went.next went.next
       (λ is. subst (λ (step : Step). IsOnStep step b doing.plan doing.next journal) is served.asked.on)
@@ -251,7 +304,11 @@ followed-comes b run doing new journal now way plan runs idle went after is =
     let came = followed b run doing new journal now way.at_piece plan runs went.grown went idle in
     let same : IsSameCall run (kept_by run new new.next) = kept-same run new new.next in
     let k : CallRun = kept_by run new new.next in (
-      record { entry = went.grown.0; newest = went.grown.1; own = λ n other. followed-own b run doing new journal now way.at_piece plan runs went.grown went n },
+      record {
+        entry = went.grown.0;
+        newest = went.grown.1;
+        is_for = followed-is_for b run doing new journal now way.at_piece plan runs went.grown (Moves (transfer_as run.transfer)) went;
+      },
       (
         subst (λ (r : CallRun). IsUnderWay b r now) (sym is) (record {
           transfer = subst (λ (t : Transfer). IsTransferOf b (transfer_as t)) (sym same.transfer) way.transfer;

@@ -10,3 +10,10 @@ mod CalmDecisions
 mod Asking
 mod Beginning
 mod Followed
+mod TakenAndLeft
+mod ComingToWork
+mod HostsStand
+mod Settling
+mod Refusing
+mod Runnable
+mod Executing

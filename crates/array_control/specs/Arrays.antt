@@ -1,12 +1,12 @@
 -- What an array is set to, and how far it has come with a call of a host. A journal has the newest entry first here: it is all
 -- entries of a bus that is alone.
-use Rattle.std.specs.Prelude.{◌≡◌, ◌≢◌, ◌++◌, ◌==◌, ◌≤◌, ◌+◌, ℕ, Bool, true, false, min, List, ◌∷◌, length, Option, Some, None, if◌then◌else◌}
+use Rattle.std.specs.Prelude.{◌≡◌, ◌≢◌, ◌++◌, ◌≤◌, ◌+◌, ◌-◌, ◌*◌, ℕ, Bool, true, false, List, ◌∷◌, length, slice_get, Option, Some, None}
+use Rattle.blocks_core.specs.Lists.{slice}
 use Rattle.stripe_layout.specs.declared.geometry.Geometry.{Geometry}
 use Rattle.stripe_layout.specs.declared.mode.Mode.{Mode}
 use Rattle.stripe_layout.specs.declared.pieces.Piece.{Piece}
 use Rattle.stripe_layout.specs.Layout.{capacity_of}
 use Rattle.stripe_layout.specs.Modes.{sends_delta}
-use Rattle.stripe_layout.specs.Pieces.{pieces_of}
 use Rattle.array_journal.specs.declared.decision.Want.{Want}
 use Rattle.array_journal.specs.declared.decision.Want.TheVariants.{Read, Write}
 use Rattle.array_journal.specs.declared.entry.Entry.{Entry}
@@ -18,7 +18,7 @@ use Rattle.array_book.specs.declared.asks.Want.{Want as BookWant}
 use Rattle.array_book.specs.declared.asks.Want.TheVariants as asks
 use Rattle.array_book.specs.Asks.{IsWant}
 use Rattle.array_book.specs.BookAnswers.{HasToWait}
-use Rattle.host_requests.specs.Requests.{Transfer, bytes_due}
+use Rattle.host_requests.specs.Requests.{Request, Moves, Transfer, bytes_due}
 use Rattle.host_requests.specs.Forms.{transfer_as}
 use Rattle.unit_plans.specs.declared.doings.Do.{Do}
 use Rattle.unit_plans.specs.declared.doings.Do.TheVariants as dos
@@ -33,14 +33,11 @@ use Rattle.array_control.specs.declared.call_run.CallRun.{CallRun}
 use Rattle.array_control.specs.declared.call_run.PieceRun.{PieceRun}
 use Rattle.array_control.specs.declared.serving.Advanced.{Advanced}
 use Rattle.array_control.specs.declared.serving.Advanced.TheVariants.{Made, Blocked}
+use Rattle.array_control.specs.ApartLaws.{IsOfThis}
+use Rattle.array_control.specs.Begins.{IsBegunAs, most_of, pieces_by}
 use Rattle.array_control.specs.Progress.{HasCome, IsServing}
 
 -- ---- the array
-
--- The most blocks of a command: as many as a buffer holds, and no more than the maximum XOR write size, where zero means no
--- maximum. That a piece ends with its unit is the layout's matter.
-abbrev pub most_of : BusSetting → ℕ
-most_of b = if b.max_write == 0 then b.array.buffer else min b.array.buffer b.max_write
 
 -- an array over a bus has the bus's geometry and mode, and the most blocks of a command there
 pub record IsArrayOf (b : BusSetting) (geometry : Geometry) (mode : Mode) (max : ℕ) : Type 0 where
@@ -70,9 +67,6 @@ pub record IsTransferOf (b : BusSetting) (t : Transfer) : Type 0 where
   pub moves : IsMove t.want
   pub within : t.lba + t.count ≤ capacity_of b.array.geometry
   pub due : length t.bytes ≡ bytes_due b.array.geometry t.want t.count
-
-abbrev pub pieces_by : BusSetting → Transfer → List Piece
-pieces_by b t = pieces_of b.array.geometry (most_of b) t.lba t.count
 
 -- a command serves a piece: its plan follows it, and the call was told what the plan will reply
 pub record IsServedBy (b : BusSetting) (n count piece : ℕ) (read : List ℕ) (doing : PieceRun) (journal : List Entry) : Type 0 where
@@ -125,32 +119,47 @@ abbrev pub want_for : Want → Piece → List ℕ → BookWant
 want_for Write piece bytes = asks.Write piece bytes
 want_for _ piece bytes = asks.Read piece
 
--- This is asked about the next piece of a call. Its blocks are no more than the maximum of XOR writes, where there is one.
-pub record IsAskFor (b : BusSetting) (run : CallRun) (ask : Ask) : Type 0 where
+-- the part of the bytes that came with a call that is a piece's
+abbrev pub part_of : Geometry → Transfer → Piece → List ℕ
+part_of g t blocks = slice t.bytes ((blocks.first - t.lba) * g.block) (blocks.count * g.block)
+
+-- This is asked about a piece of a call. Its blocks are no more than the maximum of XOR writes, where there is one.
+pub record IsAskFor (b : BusSetting) (n : ℕ) (t : Transfer) (piece : ℕ) (ask : Ask) : Type 0 where
   pub blocks : Piece
-  pub bytes : List ℕ
-  pub call : ask.call ≡ run.number
-  pub piece : ask.piece ≡ run.piece
-  pub want : ask.want ≡ want_for run.transfer.wanted blocks bytes
+  pub at : slice_get (pieces_by b t) piece ≡ Some blocks
+  pub call : ask.call ≡ n
+  pub piece_is : ask.piece ≡ piece
+  pub want : ask.want ≡ want_for t.want blocks (part_of b.array.geometry t blocks)
   pub sound : IsWant b.array ask.want
   pub most : b.max_write ≢ 0 → blocks.count ≤ b.max_write
 
 -- a piece is asked of the book, and by the book's entries it has to wait for this command
-pub record HasToWaitFor (b : BusSetting) (run : CallRun) (by : ℕ) (journal : List Entry) : Type 0 where
+pub record HasToWaitFor (b : BusSetting) (n : ℕ) (t : Transfer) (piece by : ℕ) (journal : List Entry) : Type 0 where
   pub ask : Ask
-  pub asked : IsAskFor b run ask
+  pub asked : IsAskFor b n t piece ask
   pub waits : HasToWait b.array (lane 0 journal) ask by
 
--- one entry came, which is of no other call than this
-pub record HasGrownBy (n : ℕ) (journal now : List Entry) : Type 0 where
+-- the next act of a call is to begin its piece, which has to wait for this command
+pub record IsHeldUpBy (b : BusSetting) (run : CallRun) (by : ℕ) (journal : List Entry) : Type 0 where
+  pub idle : run.doing ≡ None
+  pub waits : HasToWaitFor b run.number (transfer_as run.transfer) run.piece by journal
+
+-- An entry is of this call and of no other; and where it begins a piece, that is as the book decides of what is asked.
+pub record IsEntryFor (b : BusSetting) (n : ℕ) (request : Request) (e : Entry) (past : List Entry) : Type 0 where
+  pub of_this : IsOfThis n e past
+  pub own : (k : ℕ) → k ≢ n → is_of_call k e.event ≡ false
+  pub begun : IsBegunAs b request e.event past
+
+-- one entry came, which is of this call
+pub record HasGrownBy (b : BusSetting) (n : ℕ) (request : Request) (journal now : List Entry) : Type 0 where
   pub entry : Entry
   pub newest : now ≡ entry ∷ journal
-  pub own : (k : ℕ) → k ≢ n → is_of_call k entry.event ≡ false
+  pub is_for : IsEntryFor b n request entry journal
 
 -- One entry was made, by which the call has come further; or its piece has to wait, and nothing was done.
 abbrev pub ComesTo : BusSetting → CallRun → Advanced → CallRun → List Entry → List Entry → Type 0
-ComesTo b old Made new journal now = HasGrownBy old.number journal now × (IsUnderWay b new now × IsSameCall old new)
-ComesTo b old (Blocked by) new journal now = (now ≡ journal) × ((new ≡ old) × HasToWaitFor b old by journal)
+ComesTo b old Made new journal now = HasGrownBy b old.number (Moves (transfer_as old.transfer)) journal now × (IsUnderWay b new now × IsSameCall old new)
+ComesTo b old (Blocked by) new journal now = (now ≡ journal) × ((new ≡ old) × IsHeldUpBy b old by journal)
 
 -- a plan that comes to its end asks for an act, or replies what was read
 abbrev pub ActsOrReads : Do → Type 0

@@ -3,7 +3,10 @@ pub mod ProgressLaws
 pub mod Replies
 pub mod ReplyLaws
 pub mod ApartLaws
+pub mod Begins
 pub mod Passes
 pub mod PassLaws
 pub mod HostCalls
 pub mod Arrays
+pub mod Turns
+pub mod HostLaws

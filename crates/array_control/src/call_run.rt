@@ -39,4 +39,11 @@ impl CallRun<'_> {
     {
         self.read.as_slice()
     }
+
+    /// What it has read, to be told.
+    pub(crate) fn into_read(self) -> Bytes
+        ensures { result ≡ self.entry.read }
+    {
+        self.read
+    }
 }

@@ -1,9 +1,10 @@
 //! The calls of one host, one after another.
 
-ghost use Rattle.std.specs.Prelude.{◌≡◌, ◌<◌, ◌≤◌, ◌+◌, ◌^◌, [], ◌∷◌, ◌++◌, Some, drop, length, slice_get, option_map, IfOk, OnOk, OnErr, IsOk, MatchOption, List};
+ghost use Rattle.std.specs.Prelude.{◌≡◌, ◌<◌, ◌≤◌, ◌+◌, ◌^◌, [], ◌∷◌, ◌++◌, Some, None, drop, length, slice_get, option_copied, option_map, IfOk, OnOk, OnErr, IsOk, MatchOption, List};
 ghost use Rattle.host_scripts.specs.declared.script.Call.{Call};
-ghost use Rattle.array_control.specs.HostCalls.{HostCalls, calls_from, left_of, next_as};
+ghost use Rattle.array_control.specs.HostCalls.{HostCalls, calls_from, left_of, next_as, with_reply};
 
+use crate::call_run::CallRun;
 use blocks_core::Memory;
 use host_scripts::{Action, Call, Calls};
 use std::alloc::Global;
@@ -25,6 +26,8 @@ pub struct HostRun<'a> {
     /// The place among all calls of the next one to look at. Those before it are another host's, or were told something.
     next: usize,
     replies: Vec<Reply>,
+    /// That next one, where it was taken up.
+    current: Option<CallRun<'a>>,
 }
 
 impl<'a> Model for HostRun<'a> {
@@ -33,7 +36,7 @@ impl<'a> Model for HostRun<'a> {
 
     ghost Value = { HostCalls };
 
-    ghost view = { λ r. record { host = r.host; calls = r.calls.now; replies = r.replies.items } };
+    ghost view = { λ r. record { host = r.host; calls = r.calls.now; replies = r.replies.items; current = r.current } };
 
     ghost invariant = { λ r. IsPlace r.host r.next r.calls.now (length r.replies.items) };
 }
@@ -42,7 +45,7 @@ impl<'a> HostRun<'a> {
     /// A host that was told nothing yet. Takes no memory.
     pub fn new(alloc: Global, calls: &'a Calls, host: u8) -> Result<HostRun<'a>, Memory>
         requires short { length calls.now < 2 ^ 32 }
-        ensures run { IfOk result (λ run. run ≡ record { host = host; calls = calls.now; replies = [] }) }
+        ensures run { IfOk result (λ run. run ≡ record { host = host; calls = calls.now; replies = []; current = None }) }
         ensures ok { IsOk result }
     {
         Ok(HostRun {
@@ -50,6 +53,7 @@ impl<'a> HostRun<'a> {
             host,
             next: 0,
             replies: Vec::new(alloc),
+            current: None,
         })
     }
 
@@ -96,13 +100,51 @@ impl<'a> HostRun<'a> {
     /// Its next call is told this. After want of memory it is as it was.
     pub fn tell(&mut self, reply: Reply) -> Result<(), Memory>
         requires { 0 < length (left_of self.old) }
-        ensures told { OnOk result (self.new ≡ record self.old { replies = self.old.replies ++ reply ∷ [] }) }
+        ensures told { OnOk result (self.new ≡ with_reply self.old reply) }
         ensures err { OnErr result (self.new ≡ self.old) }
     {
         let next = place_behind(self.calls.as_slice(), self.host, self.next);
         self.replies.push(reply)?;
         self.next = next;
         Ok(())
+    }
+
+    /// The call that was taken up, if one was. It is kept no longer.
+    pub(crate) fn take_current(&mut self) -> Option<CallRun<'a>>
+        ensures call { result ≡ self.old.current }
+        ensures idle { self.new ≡ record self.old { current = None } }
+    {
+        self.current.take()
+    }
+
+    /// Keeps a call that was taken up.
+    pub(crate) fn keep(&mut self, call: CallRun<'a>)
+        ensures { self.new ≡ record self.old { current = Some call.entry } }
+    {
+        self.current = Some(call);
+    }
+
+    /// The call that was taken up, to be looked at.
+    pub(crate) fn current(&self) -> Option<&CallRun<'a>>
+        ensures { option_copied result ≡ self.now.current }
+    {
+        self.current.as_ref()
+    }
+
+    /// All calls, and the place among them from which on those of the host are left.
+    pub(crate) fn rest(&self) -> (&'a [Call], usize)
+        ensures within { result.1 ≤ length result.0.now }
+        ensures short { length result.0.now < 2 ^ 32 }
+        ensures left { calls_from self.now.host (result.1 + 1) (drop result.1 result.0.now) ≡ left_of self.now }
+    {
+        (self.calls.as_slice(), self.next)
+    }
+
+    /// The host.
+    pub(crate) fn host(&self) -> u8
+        ensures { result ≡ self.now.host }
+    {
+        self.host
     }
 }
 

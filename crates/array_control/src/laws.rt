@@ -1,6 +1,8 @@
 //! Laws of how calls of hosts come through their pieces. Each is the contract of a function that does nothing.
 
 ghost use Rattle.array_control.specs.ApartLaws.{CallsAreApart, CommandsHaveTheirCall, NoneOpensAgain};
+ghost use Rattle.array_control.specs.Begins.{PiecesAreBegunAsAsked};
+ghost use Rattle.array_control.specs.HostLaws.{HostsBegin, OthersLeaveHosts, ToldCallsAreServed, ToldCallsAreReported};
 ghost use Rattle.array_control.specs.PassLaws.{NewPassBegins, UnitBegins, UnitGoesOn, UnitEnds, GivenUpUnitStays, RefusedUnitIsPassed, LastUnitEnds, OthersLeavePasses, PassesAreTold, NewCallsHaveNoSteps, EntriesAddSteps, OthersAddNoSteps};
 ghost use Rattle.array_control.specs.ReplyLaws.{EndedCallsAreServed, EndedCallsAreReported, RefusedCallsAreServed, RefusedCallsAreReported};
 ghost use Rattle.array_control.specs.ProgressLaws.{NewCallBegins, IllegalCallEnds, PieceBegins, ActsGoOn, PieceEnds, WholePieceEnds, GivenUpPieceStays, SpoiltPieceEnds, RefusedPieceEnds, LastPieceEnds, OthersLeaveCalls};
@@ -67,4 +69,18 @@ pub fn steps_are_of_their_call()
     ensures none { NewCallsHaveNoSteps }
     ensures more { EntriesAddSteps }
     ensures others { OthersAddNoSteps }
+{}
+
+/// What becomes of a piece over a bus is what a judge of a script's journal asks of it.
+pub fn pieces_are_begun_as_asked()
+    ensures { PiecesAreBegunAsAsked }
+{}
+
+/// A host stands before its first call, and where it stands an entry of a call that isn't its own leaves it. What its calls were
+/// told is what a report says of them.
+pub fn hosts_stand()
+    ensures begins { HostsBegin }
+    ensures others { OthersLeaveHosts }
+    ensures served { ToldCallsAreServed }
+    ensures told { ToldCallsAreReported }
 {}

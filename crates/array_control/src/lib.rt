@@ -3,11 +3,14 @@
 
 mod array;
 mod call_run;
+mod execute;
 mod host_run;
 pub mod laws;
 mod serving;
+mod turns;
 
 pub use array::Array;
 pub use call_run::CallRun;
 pub use host_run::{HostRun, NextCall};
 pub use serving::Advanced;
+pub use turns::Turned;

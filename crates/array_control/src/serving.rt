@@ -11,7 +11,8 @@ ghost use Rattle.array_journal.specs.Run.{Grows, IsSetting};
 ghost use Rattle.unit_plans.specs.Buses.{merged};
 ghost use Rattle.unit_plans.specs.Follows.{HasAsked, CanDo};
 ghost use Rattle.unit_plans.specs.Plans.{IsPlan, IsPlanned, HasNext, begun};
-ghost use Rattle.array_control.specs.Arrays.{ActsOrReads, IsArrayOf, IsAskFor, IsCalm, IsAct, IsTransferOf, IsUnderWay, ComesTo, DidDo, WentOn, kept_by, pieces_by, want_for};
+ghost use Rattle.array_control.specs.Begins.{pieces_by};
+ghost use Rattle.array_control.specs.Arrays.{ActsOrReads, IsArrayOf, IsAskFor, IsCalm, IsAct, IsTransferOf, IsUnderWay, ComesTo, DidDo, WentOn, kept_by, want_for};
 
 use crate::array::Array;
 use crate::call_run::{CallRun, PieceRun};
@@ -105,12 +106,12 @@ impl<B: Bus + Drop> Array<B> {
     }
 
     /// What is asked of the book about the next piece of a call.
-    fn ask_for(&self, alloc: Global, run: &CallRun) -> Result<Ask, Memory>
+    pub(crate) fn ask_for(&self, alloc: Global, run: &CallRun) -> Result<Ask, Memory>
         requires array { IsArrayOf (B.setting self.now.bus) self.now.geometry self.now.mode self.now.max }
         requires in_range { IsSetting (B.setting self.now.bus).array }
         requires transfer { IsTransferOf (B.setting self.now.bus) (transfer_as run.now.transfer) }
         requires more { run.now.piece < length (pieces_by (B.setting self.now.bus) (transfer_as run.now.transfer)) }
-        ensures { IfOk result (λ ask. IsAskFor (B.setting self.now.bus) run.now ask) }
+        ensures { IfOk result (λ ask. IsAskFor (B.setting self.now.bus) run.now.number (transfer_as run.now.transfer) run.now.piece ask) }
     {
         let transfer = run.transfer;
         let Some(piece) = self

@@ -50,8 +50,12 @@ returns-in-Again-clause-comes g c = (
       (calm-reliable _ _ _ _ c.requires.calm) c.in_ok-ask.ensures c.in-Again.by c.in-Again.is,
   (
     refl,
-    again-waits _ _ c.args.run.now c.in_ok-ask.ask c.in-Begun.answer c.in_ok-acted.acted _ _ _ _ c.in-Begun.is c.in_ok-acted.ensures.done
-        (calm-reliable _ _ _ _ c.requires.calm) c.in_ok-ask.ensures c.in-Again.by c.in-Again.is,
+    record {
+      idle = c.requires.idle;
+      waits =
+          again-waits _ _ c.args.run.now c.in_ok-ask.ask c.in-Begun.answer c.in_ok-acted.acted _ _ _ _ c.in-Begun.is c.in_ok-acted.ensures.done
+          (calm-reliable _ _ _ _ c.requires.calm) c.in_ok-ask.ensures c.in-Again.by c.in-Again.is;
+    },
   ),
 )
 

@@ -27,5 +27,5 @@ returns-in-Some-clause-next c =
     (get_or_from_slice_get c.as_slice-calls.result.now c.in-Some.place found.0 c.index-calls-place.result found.2)
     ∙ ap (λ (l : List (ℕ × Action)). slice_get l 0)
     (sym (own-here c.self.inside.host c.in-Some.place c.as_slice-calls.result.now found.0 found.2 found.3) ∙ sym found.4 ∙ before.left)
-    ∙ ap (λ (l : List Call). slice_get (left_of (record { host = c.self.inside.host; calls = l; replies = c.self.inside.replies.items })) 0) same
+    ∙ ap (λ (l : List Call). slice_get (left_of (record { host = c.self.inside.host; calls = l; replies = c.self.inside.replies.items; current = c.self.inside.current })) 0) same
     ∙ ap (λ (r : HostCalls). slice_get (left_of r) 0) c.self.view_is

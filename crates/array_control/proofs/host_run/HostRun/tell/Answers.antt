@@ -8,7 +8,7 @@ use Rattle.array_control.proofs.host_run.HostRun.tell.Goals as goal
 pub invariant_of-self-2 : goal.invariant_of-self-2
 invariant_of-self-2 c =
     let same : c.as_slice.result.now ≡ c.self.inside.calls.now = c.as_slice.ensures in
-    let some : 0 < length (left_of (record { host = c.self.inside.host; calls = c.self.inside.calls.now; replies = c.self.inside.replies.items })) =
+    let some : 0 < length (left_of (record { host = c.self.inside.host; calls = c.self.inside.calls.now; replies = c.self.inside.replies.items; current = c.self.inside.current })) =
     subst (λ (r : HostCalls). 0 < length (left_of r)) (sym c.self.view_is) c.requires in
     let behind : IsPlace c.self.inside.host c.place_behind-next.result c.self.inside.calls.now (length c.self.inside.replies.items + 1) =
     told-place c.self.inside.host c.self.inside.next c.place_behind-next.result (length c.self.inside.replies.items) c.self.inside.calls.now
