@@ -16,7 +16,7 @@ pub(crate) struct PieceRun {
 /// A call that moves blocks: its number from 1, into how many pieces it is cut, which of them is next or is served, and what
 /// was read by those before it.
 #[derive(Debug, Drop)]
-pub struct CallRun<'a> {
+pub(crate) struct CallRun<'a> {
     pub(crate) number: u32,
     pub(crate) transfer: Transfer<'a>,
     pub(crate) count: u32,
@@ -27,17 +27,10 @@ pub struct CallRun<'a> {
 
 impl CallRun<'_> {
     /// Whether all its pieces are done: nothing is left to do but to tell its host.
-    pub fn is_done(&self) -> bool
+    pub(crate) fn is_done(&self) -> bool
         ensures { result ≡ (self.now.piece == self.now.count) }
     {
         self.piece == self.count
-    }
-
-    /// What it has read so far.
-    pub fn read(&self) -> &[u8]
-        ensures { result.now ≡ self.now.read }
-    {
-        self.read.as_slice()
     }
 
     /// What it has read, to be told.

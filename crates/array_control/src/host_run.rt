@@ -13,7 +13,7 @@ use unit_plans::Reply;
 
 /// A call of a host that is to be served, with its number among all calls, from 1.
 #[derive(Clone, Copy, Debug)]
-pub struct NextCall<'a> {
+pub(crate) struct NextCall<'a> {
     pub number: u32,
     pub action: &'a Action,
 }
@@ -77,7 +77,7 @@ impl<'a> HostRun<'a> {
     }
 
     /// Goes to the next call of the host, if there is one. Each call of another host is passed once.
-    pub fn come_to_call(&mut self) -> Option<NextCall<'a>>
+    pub(crate) fn come_to_call(&mut self) -> Option<NextCall<'a>>
         ensures same { self.new ≡ self.old }
         ensures next { option_map next_as result ≡ slice_get (left_of self.old) 0 }
     {
@@ -98,7 +98,7 @@ impl<'a> HostRun<'a> {
     }
 
     /// Its next call is told this. After want of memory it is as it was.
-    pub fn tell(&mut self, reply: Reply) -> Result<(), Memory>
+    pub(crate) fn tell(&mut self, reply: Reply) -> Result<(), Memory>
         requires { 0 < length (left_of self.old) }
         ensures told { OnOk result (self.new ≡ with_reply self.old reply) }
         ensures err { OnErr result (self.new ≡ self.old) }

@@ -10,7 +10,5 @@ mod serving;
 mod turns;
 
 pub use array::Array;
-pub use call_run::CallRun;
-pub use host_run::{HostRun, NextCall};
-pub use serving::Advanced;
+pub use host_run::HostRun;
 pub use turns::Turned;

@@ -27,7 +27,7 @@ use unit_plans::{BookAct, BookActed, Bus, Do, Plan, Reply, Said, Stop};
 
 /// What a step of a call has come to.
 #[derive(Clone, Copy, Debug, PartialEq, Eq)]
-pub enum Advanced {
+pub(crate) enum Advanced {
     /// One entry was made.
     Made,
     /// The piece has to wait for this command, and nothing was done.
@@ -85,7 +85,7 @@ impl<B: Bus + Drop> Array<B> {
     }
 
     /// A call that moves blocks, before its first piece. Its number is new to the array. Takes no memory.
-    pub fn call<'a>(&self, alloc: Global, number: u32, transfer: Transfer<'a>) -> CallRun<'a>
+    pub(crate) fn call<'a>(&self, alloc: Global, number: u32, transfer: Transfer<'a>) -> CallRun<'a>
         requires array { IsArrayOf (B.setting self.now.bus) self.now.geometry self.now.mode self.now.max }
         requires in_range { IsSetting (B.setting self.now.bus).array }
         requires transfer { IsTransferOf (B.setting self.now.bus) (transfer_as transfer) }
@@ -224,7 +224,7 @@ impl<B: Bus + Drop> Array<B> {
     }
 
     /// Goes on with a call that isn't at its end: its next piece is begun, or the one that is served is served further.
-    pub fn advance<'a>(
+    pub(crate) fn advance<'a>(
         &mut self,
         alloc: Global,
         pass: B::Pass,
