@@ -1,0 +1,2 @@
+pub mod FirstBus
+pub mod FirstHost
